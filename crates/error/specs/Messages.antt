@@ -23,9 +23,15 @@ words BeyondRoom = codes "the filled count lies beyond the room"
 words RoomFull = codes "the next character does not fit the room"
 words (Source fault) = kind-words (fault .kind)
 
-abbrev pub placed : List ℕ → List ℕ
-placed [] = []
-placed (place ∷ rest) = codes " at " ++ decimal place
+abbrev pub placed : Refusal → List ℕ
+placed TooLong = []
+placed (IllFormed place) = codes " at byte " ++ decimal place
+placed NotACharacter = []
+placed NarrowWindow = []
+placed CommentNotSeparated = []
+placed BeyondRoom = []
+placed RoomFull = []
+placed (Source fault) = codes " at character " ++ decimal (fault .place)
 
 abbrev pub message : Refusal → List ℕ
-message refusal = words refusal ++ (placed (number refusal .1) ++ (codes " (refusal " ++ (decimal (number refusal .0) ++ codes ")")))
+message refusal = words refusal ++ (placed refusal ++ (codes " (refusal " ++ (decimal (number refusal .0) ++ codes ")")))

@@ -137,9 +137,13 @@ pub impl fmt::Display for Refusal as RefusalDisplay {
     fn fmt<W: fmt::Write>(&self, f: &mut fmt::Formatter<W>) -> fmt::Result {
         let words = self.words();
         let number = self.number();
-        match self.place() {
-            Some(place) => write!(f, "{words} at {place} (refusal {number})"),
-            None => write!(f, "{words} (refusal {number})"),
+        match self {
+            Refusal::IllFormed(place) => write!(f, "{words} at byte {place} (refusal {number})"),
+            Refusal::Source(fault) => {
+                let place = fault.place;
+                write!(f, "{words} at character {place} (refusal {number})")
+            }
+            _ => write!(f, "{words} (refusal {number})"),
         }
     }
 }

@@ -17,15 +17,15 @@ use Rattle.utf8.proofs.Encoded.{code2, code3, code4}
 use Rattle.utf8.proofs.Rows.{Stands, stands1, stands2, stands3, stands4}
 use Rattle.utf8.proofs.Leads.{all-in, clash}
 
-both : (x y : Bool) → x ≡ true → y ≡ true → x && y ≡ true
+pub both : (x y : Bool) → x ≡ true → y ≡ true → x && y ≡ true
 both true y p q = q
 both false y p q = p
 
-left : (x y : Bool) → x && y ≡ true → x ≡ true
+pub left : (x y : Bool) → x && y ≡ true → x ≡ true
 left true y e = refl
 left false y e = e
 
-right : (x y : Bool) → x && y ≡ true → y ≡ true
+pub right : (x y : Bool) → x && y ≡ true → y ≡ true
 right true y e = e
 right false y e = absurd (clash e)
 
@@ -44,7 +44,7 @@ pub formed-append : (xs ys : List ℕ) → Formed xs → Formed ys → Formed (x
 formed-append xs ys (rows, (p, e)) (others, (q, f)) =
     (rows ++ others, (tabled-append rows others p q, joined-append rows others ∙ ap₂ (λ a b. a ++ b) e f))
 
-append-none : (xs : List ℕ) → xs ++ [] ≡ xs
+pub append-none : (xs : List ℕ) → xs ++ [] ≡ xs
 append-none [] = refl
 append-none (x ∷ xs) = ap (λ r. x ∷ r) (append-none xs)
 
@@ -55,7 +55,7 @@ take-none : (m : ℕ) → take {A = ℕ} m [] ≡ []
 take-none zero = refl
 take-none (suc m) = refl
 
-take-add : (n m : ℕ) (xs : List ℕ) → take (n + m) xs ≡ take n xs ++ take m (drop n xs)
+pub take-add : (n m : ℕ) (xs : List ℕ) → take (n + m) xs ≡ take n xs ++ take m (drop n xs)
 take-add zero m xs = ap (λ k. take k xs) (zero-add m)
 take-add (suc n) m [] = ap (λ k. take k []) (suc-add n m) ∙ sym (take-none m)
 take-add (suc n) m (x ∷ xs) = ap (λ k. take k (x ∷ xs)) (suc-add n m) ∙ ap (λ r. x ∷ r) (take-add n m xs)

@@ -1,0 +1,6 @@
+//! Vectors, run as tests.
+
+#[cfg(test)]
+mod classes;
+#[cfg(test)]
+mod encoding;
