@@ -1,6 +1,8 @@
 -- The table of refusals: the number of each, with its values. Assumes nothing.
 use mathlib.Core.List.{List, [], _∷_}
 use Prim.Native.Nat.{ℕ}
+use Rattle.std.specs.declared.option.Option.{Option}
+use Rattle.std.specs.declared.option.Option.the-variants.{Some, None}
 use Rattle.std.specs.declared.result.Result.{Result}
 use Rattle.std.specs.declared.result.Result.the-variants.{Ok, Err}
 use Rattle.error.specs.declared.FaultKind.{FaultKind}
@@ -29,6 +31,10 @@ number CommentNotSeparated = (5, [])
 number BeyondRoom = (6, [])
 number RoomFull = (7, [])
 number (Source fault) = fault-number fault
+
+abbrev pub fault-of : Ending → Option Fault
+fault-of Clean = None
+fault-of (Faulty fault) = Some fault
 
 -- a clean ending has the number 0
 abbrev pub ending-number : Ending → ℕ × List ℕ

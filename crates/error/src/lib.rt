@@ -5,7 +5,7 @@ ghost use lib.Dec.{ltb};
 ghost use Rattle.std.specs.Vec.{listOf};
 ghost use Rattle.std.specs.declared.option.Option.the-variants.{Some};
 ghost use Rattle.error.specs.Limit.{text-limit};
-ghost use Rattle.error.specs.Numbers.{kind-number, number};
+ghost use Rattle.error.specs.Numbers.{kind-number, fault-of, number};
 ghost use Rattle.error.specs.Messages.{kind-words, words, message};
 use std::fmt;
 
@@ -62,6 +62,18 @@ pub struct Fault {
 pub enum Ending {
     Clean,
     Faulty(Fault),
+}
+
+impl Ending {
+    /// The fault, if it is one.
+    pub fn fault(self) -> Option<Fault>
+        ensures { λ r. ⌜ r ≡ fault-of self ⌝ }
+    {
+        match self {
+            Ending::Clean => None,
+            Ending::Faulty(fault) => Some(fault),
+        }
+    }
 }
 
 /// Why the reader says no.

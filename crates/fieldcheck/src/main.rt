@@ -1,26 +1,40 @@
-//! Checks a firing program, and prints it line by line.
+//! Reads a firing program by card and by cable, prints it line by line, and runs the technician's checklist.
 
 mod program;
 
+use buffered::fallible::FallibleBufferedInput;
+use buffered::fallible_input::FallibleRingInput;
+use checklist::pulls::codes_of;
+use checklist::pulls::pull_all_over;
+use checklist::readings::read_out;
 use error::Refusal;
 use error::RefusalDisplay;
-use listing::characters;
 use listing::cut_line;
 use listing::drawn_line;
 use program::CONE_SIX;
+use source::bytes::ByteChars;
+use source::bytes_source::ByteSource;
 use std::alloc::AllocError;
 use std::env;
 use std::fs;
 use std::io;
-use utf8::text::check_text;
+use str_input::text::StrInput;
+use str_input::text_input::SliceInput;
 
 const BUILT_IN: &str = "cone six (built in)";
+
+/// The most codes that a cable takes, and about how many pulls a long program gets.
+const MOST_CODES: usize = 16_383;
+
+const MOST_PULLS: usize = 600;
 
 /// Why the program ends with status 1.
 #[derive(Drop)]
 enum Stop {
     Io(io::Error),
     Refused(Refusal),
+    /// A line of the checklist failed, and said so.
+    Failed,
 }
 
 impl From<io::Error> for Stop as StopFromIo {
@@ -41,30 +55,106 @@ impl From<Refusal> for Stop as StopFromRefusal {
     }
 }
 
-/// Prints each line with its number and its count of characters, and tells how many there are.
-fn print_lines(rt: &LibcRuntime, chars: &[char]) -> Result<usize, Stop> {
+/// How many lines there are, and how many differ.
+#[derive(Clone, Copy)]
+struct Compared {
+    lines: usize,
+    differ: usize,
+}
+
+/// Prints the lines by card and by cable, each with its number and its count of characters: once where both are the same.
+fn print_lines(rt: &LibcRuntime, card: &[char], cable: &[char]) -> Result<Compared, Stop> {
+    let heap = rt.alloc();
+    let mut compared = Compared {
+        lines: 0,
+        differ: 0,
+    };
     let mut at = 0;
-    let mut lines = 0usize;
-    while at < chars.len() {
-        let cut = cut_line(&chars[at..]);
-        lines = lines.saturating_add(1);
-        let count = cut.len;
-        let text = drawn_line(rt.alloc(), &chars[at..at + count])?;
-        println!(rt, "{lines:>4} {count:>4} | {text}")?;
-        at += cut.whole;
+    let mut beside = 0;
+    while at < card.len() || beside < cable.len() {
+        let one = cut_line(&card[at..]);
+        let other = cut_line(&cable[beside..]);
+        let by_card = &card[at..at + one.len];
+        let by_cable = &cable[beside..beside + other.len];
+        compared.lines = compared.lines.saturating_add(1);
+        let line = compared.lines;
+        let count = one.len;
+        let text = drawn_line(heap, by_card)?;
+        if by_card == by_cable {
+            println!(rt, "{line:>4} {count:>4} | {text}")?;
+        } else {
+            compared.differ = compared.differ.saturating_add(1);
+            let count_beside = other.len;
+            let text_beside = drawn_line(heap, by_cable)?;
+            println!(rt, "{line:>4} {count:>4} | {text}   <- card")?;
+            println!(rt, "{line:>4} {count_beside:>4} | {text_beside}   <- cable")?;
+        }
+        at += one.whole;
+        beside += other.whole;
     }
-    Ok(lines)
+    Ok(compared)
+}
+
+/// Line A of the checklist: card and cable give the same.
+fn check_sides(rt: &LibcRuntime, compared: &Compared) -> Result<bool, Stop> {
+    let lines = compared.lines;
+    let differ = compared.differ;
+    if differ == 0 {
+        println!(rt, "A  ok    card and cable give the same {lines} lines")?;
+    } else {
+        println!(
+            rt,
+            "A  FAIL  card and cable differ in {differ} of {lines} lines"
+        )?;
+    }
+    Ok(differ == 0)
+}
+
+/// Line B: the cable is pulled all over the program, and each pull is told with its place.
+fn check_pulls(rt: &LibcRuntime, chars: &[char]) -> Result<bool, Stop> {
+    let heap = rt.alloc();
+    let codes = codes_of(heap, chars, MOST_CODES)?;
+    let every = codes.len() / MOST_PULLS + 1;
+    let pulls = pull_all_over(heap, codes.as_slice(), every)?;
+    let made = pulls.made;
+    let told = pulls.told;
+    let all = told == made;
+    if all {
+        println!(
+            rt,
+            "B  ok    cable pulled at {made} places: each told with its place, none closed as whole"
+        )?;
+    } else {
+        println!(
+            rt,
+            "B  FAIL  cable pulled at {made} places: {told} told with their place"
+        )?;
+    }
+    Ok(all)
 }
 
 fn show(rt: &LibcRuntime, name: &str, bytes: &[u8]) -> Result<(), Stop> {
-    check_text(bytes)?;
-    let chars = characters(rt.alloc(), bytes)?;
+    let heap = rt.alloc();
+    let mut card = StrInput::new();
+    card.load(bytes)?;
+    let by_card = read_out(heap, &mut card)?;
+    let mut source = ByteChars::new();
+    source.load(bytes)?;
+    let mut cable = FallibleBufferedInput::new(source);
+    let by_cable = read_out(heap, &mut cable)?;
     println!(rt, "program: {name}")?;
-    let lines = print_lines(rt, chars.as_slice())?;
-    let count = chars.len();
+    let compared = print_lines(rt, by_card.chars.as_slice(), by_cable.chars.as_slice())?;
+    let lines = compared.lines;
+    let count = by_card.chars.len();
     let size = bytes.len();
     println!(rt, "lines {lines}, characters {count}, bytes {size}")?;
-    Ok(())
+    let same = check_sides(rt, &compared)?;
+    let told = check_pulls(rt, by_card.chars.as_slice())?;
+    if same && told {
+        Ok(())
+    } else {
+        Err(Stop::Failed)
+    }
 }
 
 fn show_file(rt: &LibcRuntime, path: &str) -> Result<(), Stop> {
@@ -78,6 +168,7 @@ fn report(rt: &LibcRuntime, name: &str, result: Result<(), Stop>) -> Result<(), 
         Ok(()) => {}
         Err(Stop::Refused(refusal)) => eprintln!(rt, "fieldcheck: {name}: {refusal}")?,
         Err(Stop::Io(e)) => eprintln!(rt, "fieldcheck: {name}: {e}")?,
+        Err(Stop::Failed) => eprintln!(rt, "fieldcheck: {name}: the checklist has failures")?,
     }
     result
 }

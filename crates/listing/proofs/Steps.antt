@@ -1,7 +1,6 @@
 -- One character more of what was read, and of what is drawn. Assumes nothing.
 use mathlib.Core.Path.{_≡_, refl, sym, ap, ap₂, _∙_}
 use mathlib.Core.Bool.{Bool, true, false, cond, _&&_, _||_}
-use mathlib.Core.Logic.{_⊎_, inl, inr}
 use mathlib.Core.List.{List, [], _∷_, _++_, map}
 use Prim.Native.Nat.{ℕ, _+_, _≤_, _<_}
 use native.Mathlib.Omega.{arith}
@@ -12,29 +11,11 @@ use Rattle.std.proofs.shelf.Lists.{take-more}
 use Rattle.std.proofs.shelf.Text.{encodes-append}
 use Rattle.std.proofs.shelf.Ways.{tells}
 use Rattle.char_traits.specs.Chars.{line-break}
-use Rattle.utf8.specs.Decoding.{told, Decodes, IsChar, IsIll}
-use Rattle.utf8.specs.declared.decoder.Decoded.{Decoded}
-use Rattle.utf8.specs.declared.decoder.Decoded.the-variants.{Char, IllFormed, End}
-use Rattle.utf8.proofs.Texts.{take-add, append-none, both, left, right}
+use Rattle.utf8.proofs.Texts.{append-none}
 use Rattle.listing.specs.Lines.{break-width, drawn}
-
-scalars-push : (cs : List ℕ) (c : ℕ) → scalars cs ≡ true → scalar c ≡ true → scalars (cs ++ (c ∷ [])) ≡ true
-scalars-push [] c s t = both (scalar c) true t refl
-scalars-push (d ∷ cs) c s t = both (scalar d) _ (left (scalar d) _ s) (scalars-push cs c (right (scalar d) _ s) t)
-
-pub scalars-more : (cs ds : List ℕ) (c : ℕ) → ds ≡ cs ++ (c ∷ []) → scalars cs ≡ true → scalar c ≡ true → scalars ds ≡ true
-scalars-more cs ds c e s t = ap scalars e ∙ scalars-push cs c s t
 
 encodes-push : (cs : List ℕ) (c : ℕ) → encodes (cs ++ (c ∷ [])) ≡ encodes cs ++ encode c
 encodes-push cs c = encodes-append cs (c ∷ []) ∙ ap (λ r. encodes cs ++ r) (append-none (encode c))
-
-pub front-more : (bytes cs ds : List ℕ) (at c w : ℕ) → ds ≡ cs ++ (c ∷ []) → encodes cs ≡ take at bytes → IsChar (drop at bytes) c w → encodes ds ≡ take (at + w) bytes
-front-more bytes cs ds at c w p e is = ap encodes p ∙ encodes-push cs c ∙ ap₂ (λ x y. x ++ y) e (is .encoded) ∙ sym (take-add at w bytes)
-
-pub stopped : (xs : List ℕ) (r : Decoded) → Decodes xs (told r) → ((c w : ℕ) → r ≡ Char c w → ⊥) → (xs ≡ []) ⊎ IsIll xs
-stopped xs (Char c w) d no-char = absurd (no-char c w refl)
-stopped xs IllFormed d no-char = inr (d .ill refl)
-stopped xs End d no-char = inl (d .end refl)
 
 map-push : (f : ℕ → ℕ) (cs : List ℕ) (c : ℕ) → map f (cs ++ (c ∷ [])) ≡ map f cs ++ (f c ∷ [])
 map-push f [] c = refl

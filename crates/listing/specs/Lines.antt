@@ -1,14 +1,11 @@
 -- The lines of a text. Assumes nothing.
 use mathlib.Core.Path.{_≡_}
 use mathlib.Core.Bool.{true, false, cond, _&&_}
-use mathlib.Core.Logic.{_⊎_}
 use mathlib.Core.List.{List, [], _∷_}
 use Prim.Native.Nat.{ℕ, _+_, _≤_, _<_}
 use lib.Dec.{eqb}
-use lib.ListN.{length, getD, take, drop}
-use lib.Utf8.{encodes, scalars}
+use lib.ListN.{length, getD, drop}
 use Rattle.char_traits.specs.Chars.{line-break, printable}
-use Rattle.utf8.specs.Decoding.{IsIll}
 
 -- b-break: carriage return and line feed together, or one of them alone; 0 where no break stands
 abbrev pub break-width : List ℕ → ℕ
@@ -24,13 +21,6 @@ pub record Cuts (chars : List ℕ) (len whole : ℕ) : Type 0 where
   pub with-break : whole ≡ len + break-width (drop len chars)
   pub inside : whole ≤ length chars
   pub moves : 0 < length chars → 0 < whole
-
--- the characters of some bytes, up to the end or the first that is ill-formed
-pub record Spells (bytes chars : List ℕ) : Type 0 where
-  pub place : ℕ
-  pub characters : scalars chars ≡ true
-  pub front : encodes chars ≡ take place bytes
-  pub stops : (drop place bytes ≡ []) ⊎ IsIll (drop place bytes)
 
 -- what a panel may draw: a printable character as it is, any other as the replacement character
 abbrev pub drawn : ℕ → ℕ

@@ -4,15 +4,12 @@ ghost use mathlib.Core.Path.{_≡_};
 ghost use mathlib.Core.List.{map};
 ghost use lib.Utf8.{encodes};
 ghost use Rattle.std.specs.Of.String.{string-bytes};
-ghost use Rattle.std.specs.Of.Vec.{vec-items};
 ghost use Rattle.std.specs.Vec.{made};
-ghost use Rattle.listing.specs.Lines.{break-width, Cuts, Spells, drawn};
+ghost use Rattle.listing.specs.Lines.{break-width, Cuts, drawn};
 use char_traits::is_break;
 use char_traits::is_printable;
 use std::alloc::AllocError;
 use std::alloc::Global;
-use utf8::decoder::Decoded;
-use utf8::decoder::decode;
 
 /// How many characters a line has, and how many with its break.
 #[derive(Clone, Copy, Debug, PartialEq)]
@@ -43,19 +40,6 @@ pub fn cut_line(chars: &[char]) -> Cut
         len,
         whole: len + width_of_break(&chars[len..]),
     }
-}
-
-/// The characters of a text.
-pub fn characters(heap: Global, text: &[u8]) -> Result<Vec<char>, AllocError>
-    ensures { λ r. ⌜ made r (λ v. Spells (now (text .entry)) (vec-items v)) ⌝ }
-{
-    let mut chars = Vec::new(heap);
-    let mut at = 0;
-    while let Decoded::Char(c, width) = decode(text, at) {
-        chars.push(c)?;
-        at += width;
-    }
-    Ok(chars)
 }
 
 fn drawn_char(c: char) -> char

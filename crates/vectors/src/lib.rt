@@ -4,3 +4,5 @@
 mod classes;
 #[cfg(test)]
 mod encoding;
+#[cfg(test)]
+mod inputs;

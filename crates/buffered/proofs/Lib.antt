@@ -1,0 +1,4 @@
+pub mod Fronts
+pub mod Filling
+pub mod Taking
+pub mod Asking
