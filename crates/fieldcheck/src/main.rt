@@ -62,7 +62,7 @@ struct Compared {
     differ: usize,
 }
 
-/// Prints the lines by card and by cable, each with its number and its count of characters: once where both are the same.
+/// Prints the lines by card and by cable, side by side: the line's number, its count of characters by each, and its text, once where both are the same.
 fn print_lines(rt: &LibcRuntime, card: &[char], cable: &[char]) -> Result<Compared, Stop> {
     let heap = rt.alloc();
     let mut compared = Compared {
@@ -79,15 +79,15 @@ fn print_lines(rt: &LibcRuntime, card: &[char], cable: &[char]) -> Result<Compar
         compared.lines = compared.lines.saturating_add(1);
         let line = compared.lines;
         let count = one.len;
+        let count_beside = other.len;
         let text = drawn_line(heap, by_card)?;
         if by_card == by_cable {
-            println!(rt, "{line:>4} {count:>4} | {text}")?;
+            println!(rt, "{line:>4} {count:>4} {count_beside:>5} = {text}")?;
         } else {
             compared.differ = compared.differ.saturating_add(1);
-            let count_beside = other.len;
             let text_beside = drawn_line(heap, by_cable)?;
-            println!(rt, "{line:>4} {count:>4} | {text}   <- card")?;
-            println!(rt, "{line:>4} {count_beside:>4} | {text_beside}   <- cable")?;
+            println!(rt, "{line:>4} {count:>4}       ! {text}")?;
+            println!(rt, "{line:>4}      {count_beside:>5} ! {text_beside}")?;
         }
         at += one.whole;
         beside += other.whole;
@@ -143,6 +143,7 @@ fn show(rt: &LibcRuntime, name: &str, bytes: &[u8]) -> Result<(), Stop> {
     let mut cable = FallibleBufferedInput::new(source);
     let by_cable = read_out(heap, &mut cable)?;
     println!(rt, "program: {name}")?;
+    println!(rt, "line card cable")?;
     let compared = print_lines(rt, by_card.chars.as_slice(), by_cable.chars.as_slice())?;
     let lines = compared.lines;
     let count = by_card.chars.len();

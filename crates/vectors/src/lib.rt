@@ -6,3 +6,5 @@ mod classes;
 mod encoding;
 #[cfg(test)]
 mod inputs;
+#[cfg(test)]
+mod lists;
