@@ -34,7 +34,7 @@ pub fn look_ch<I: Input>(input: &mut I) -> char
     ensures character { λ r. ⌜ r ≡ getD (I·Input .view (now (input .entry)) .ahead) 0 0 ⌝ }
 {
     input.lookahead(1);
-    input.peek_nth(0)
+    peek(input)
 }
 
 /// Whether the window is 0.
