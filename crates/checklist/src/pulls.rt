@@ -23,7 +23,8 @@ use std::alloc::Global;
 
 /// Whether a closing tells that the line failed after so many characters.
 fn tells_pull(closing: Closing, place: usize) -> bool
-    ensures { λ r. ⌜ (closed closing ≡ (8, place ∷ []) → r ≡ true) ⌝ }
+    ensures told { λ r. ⌜ (closed closing ≡ (8, place ∷ []) → r ≡ true) ⌝ }
+    ensures only { λ r. ⌜ (r ≡ true → closed closing ≡ (8, place ∷ [])) ⌝ }
 {
     match closing {
         Closing::Failed(fault) => match fault.kind {
@@ -36,7 +37,8 @@ fn tells_pull(closing: Closing, place: usize) -> bool
 
 /// Sends these codes down a cable that is then pulled, and reads them: whether the pull was told with its place, and no character was lost.
 pub fn pull_is_told(heap: Global, codes: &[u32]) -> Result<bool, AllocError>
-    ensures { λ r. ⌜ made r (λ told. scalars (now (codes .entry)) ≡ true → length (now (codes .entry)) ≤ code-limit → told ≡ true) ⌝ }
+    ensures told { λ r. ⌜ made r (λ told. scalars (now (codes .entry)) ≡ true → length (now (codes .entry)) ≤ code-limit → told ≡ true) ⌝ }
+    ensures only { λ r. ⌜ made r (λ told. told ≡ true → (scalars (now (codes .entry)) ≡ true) × (length (now (codes .entry)) ≤ code-limit)) ⌝ }
 {
     let mut source = Codes::new();
     if source.load(codes, CodesEnding::InputIo).is_err() {

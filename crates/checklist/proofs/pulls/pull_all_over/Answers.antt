@@ -9,4 +9,4 @@ pub loop-place-again : need.loop-place-again
 loop-place-again c = λ s l.
     let front = scalars-take (c .loop-place .place - 0) (c .args .codes .now) s in
     let short : length (take (c .loop-place .place - 0) (c .args .codes .now)) ≤ code-limit = simp length-take (omega arith) in
-    c .one-more-pulls .ensures (c .in-Continue-told .ensures tt front short) (c .loop-place .inv s l)
+    c .one-more-pulls .ensures (c .in-Continue-told .ensures tt .told front short) (c .loop-place .inv s l)
