@@ -3,7 +3,7 @@
 ghost use mathlib.Core.Path.{_≡_};
 ghost use mathlib.Core.Bool.{true};
 ghost use mathlib.Core.List.{[], _∷_};
-ghost use Prim.Native.Nat.{_≤_};
+ghost use Prim.Native.Nat.{_+_, _^_, _≤_, _<_};
 ghost use lib.ListN.{length, take};
 ghost use lib.Utf8.{scalars};
 ghost use Rattle.std.specs.Of.Vec.{vec-items};
@@ -68,7 +68,8 @@ pub fn codes_of(heap: Global, chars: &[char], most: usize) -> Result<Vec<u32>, A
 }
 
 fn one_more(pulls: Pulls, told: bool) -> Pulls
-    ensures { λ r. ⌜ (told ≡ true → pulls .told ≡ pulls .made → r .told ≡ r .made) ⌝ }
+    ensures told { λ r. ⌜ (told ≡ true → pulls .told ≡ pulls .made → r .told ≡ r .made) ⌝ }
+    ensures made { λ r. ⌜ (pulls .made + 1 < 2 ^ 64 → r .made ≡ pulls .made + 1) ⌝ }
 {
     Pulls {
         made: pulls.made.saturating_add(1),
@@ -82,7 +83,8 @@ fn one_more(pulls: Pulls, told: bool) -> Pulls
 
 /// Pulls the cable before the first character, then after every so many, and at last after all.
 pub fn pull_all_over(heap: Global, codes: &[u32], every: usize) -> Result<Pulls, AllocError>
-    ensures { λ r. ⌜ made r (λ pulls. scalars (now (codes .entry)) ≡ true → length (now (codes .entry)) ≤ code-limit → pulls .told ≡ pulls .made) ⌝ }
+    ensures told { λ r. ⌜ made r (λ pulls. scalars (now (codes .entry)) ≡ true → length (now (codes .entry)) ≤ code-limit → pulls .told ≡ pulls .made) ⌝ }
+    ensures everywhere { λ r. ⌜ made r (λ pulls. every ≤ 1 → pulls .made ≡ length (now (codes .entry)) + 1) ⌝ }
 {
     let mut pulls = Pulls { made: 0, told: 0 };
     for place in 0..codes.len() {
