@@ -1,5 +1,4 @@
 pub mod Runs
-pub mod Fronts
 pub mod Facts
 pub mod Courses
 pub mod Shown

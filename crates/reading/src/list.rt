@@ -3,28 +3,29 @@
 ghost use Rattle.reading.specs.Reading.{log_of, SameCalls, Ran, Same, Account};
 
 use crate::call::Step;
-use crate::perform::perform;
+use crate::perform::answer_to;
+use input::Input;
 use input::ticket::Reading;
-use scan::Scan;
 
 /// Takes one input through a list. The ticket of an open reading goes in, and what is open at the end comes out.
-pub fn run<I: Scan>(input: &mut I, held: Option<Reading>, steps: &mut [Step]) -> Option<Reading>
+pub fn run<I: Input>(input: &mut I, held: Option<Reading>, steps: &mut [Step]) -> Option<Reading>
     ensures same { SameCalls steps.old steps.new }
     ensures ran { Ran I.Input.prompt I.Input.most (log_of steps.old steps.new) (I.Input.view input.old) (I.Input.view input.new) }
 {
     let mut held = held;
     for step in steps.iter_mut() {
-        held = perform(input, step, held);
+        let (answer, next) = answer_to(input, step.call, held);
+        step.answer = answer;
+        held = next;
     }
     held
 }
 
 /// Takes two inputs, each of any kind, through a list each.
 ///
-/// Lists that differ in added lookaheads alone get the same answers, and the same bytes in their rooms, of inputs that have
-/// the same ahead; for each input, what its calls took and what is still ahead is what was ahead, and its ending is met when
-/// due, told once and closed with.
-pub fn side_by_side<L: Scan, R: Scan>(
+/// Lists that differ in added lookaheads alone get the same answers of inputs that have the same ahead; for each input,
+/// what its calls took and what is still ahead is what was ahead, and its ending is met when due, told once and closed with.
+pub fn side_by_side<L: Input, R: Input>(
     left: &mut L,
     right: &mut R,
     one: &mut [Step],

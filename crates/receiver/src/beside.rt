@@ -7,16 +7,16 @@ ghost use Rattle.receiver.specs.Stash.{seen};
 
 use crate::packets::Packets;
 use crate::stash::Stash;
+use input::Input;
 use input::ticket::Reading;
 use reading::call::Step;
 use reading::list::side_by_side;
-use scan::Scan;
 
 /// Takes a receiver and another input through a list each.
 ///
-/// Lists that differ in added lookaheads alone get the same answers, and the same bytes in their rooms, of inputs that have
-/// the same ahead; for each of the two, nothing is lost or doubled, and the ending is told.
-pub fn receive_beside<I: Scan>(
+/// Lists that differ in added lookaheads alone get the same answers of inputs that have the same ahead; for each of the two,
+/// nothing is lost or doubled, and the ending is told.
+pub fn receive_beside<I: Input>(
     receiver: &mut Stash<Packets<'_>>,
     other: &mut I,
     one: &mut [Step],

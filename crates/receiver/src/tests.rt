@@ -15,14 +15,21 @@ const LOST: Fault = Fault {
     place: 2,
 };
 
-fn character(step: &Step) -> Option<char> {
+fn step(call: Call) -> Step {
+    Step {
+        call,
+        answer: Answer::Nothing,
+    }
+}
+
+fn character(step: Step) -> Option<char> {
     match step.answer {
         Answer::Character(c) => Some(c),
         _ => None,
     }
 }
 
-fn fault(step: &Step) -> Option<Fault> {
+fn fault(step: Step) -> Option<Fault> {
     match step.answer {
         Answer::Asked(fault) => fault,
         _ => None,
@@ -37,7 +44,6 @@ fn end<I: Input>(held: Option<Reading>, input: &mut I) {
 
 #[test]
 fn same_answers(rt: HostRuntime) -> Result<(), Fail> {
-    let heap = rt.alloc();
     let slots = [Slot::Gap, Slot::Char('a'), Slot::Gap, Slot::Char('b')];
     let mut packets = Packets::new();
     packets.load(&slots, Link::Lost)?;
@@ -46,34 +52,33 @@ fn same_answers(rt: HostRuntime) -> Result<(), Fail> {
     codes.load(&[0x61, 0x62], CodesEnding::InputIo)?;
     let mut right = Stash::new(codes);
     let mut one = [
-        Step::new(heap, Call::Added(9)),
-        Step::new(heap, Call::LookCh),
-        Step::new(heap, Call::Read),
-        Step::new(heap, Call::Read),
-        Step::new(heap, Call::Read),
+        step(Call::Added(9)),
+        step(Call::LookCh),
+        step(Call::Read),
+        step(Call::Read),
+        step(Call::Read),
     ];
     let mut two = [
-        Step::new(heap, Call::LookCh),
-        Step::new(heap, Call::Read),
-        Step::new(heap, Call::Read),
-        Step::new(heap, Call::Read),
+        step(Call::LookCh),
+        step(Call::Read),
+        step(Call::Read),
+        step(Call::Read),
     ];
     let (held, beside) = receive_beside(&mut left, &mut right, &mut one, &mut two, None, None);
     end(held, &mut left);
     end(beside, &mut right);
-    assert_eq!(rt; character(&one[1]), Some('a'));
-    assert_eq!(rt; character(&one[3]), Some('b'));
-    assert_eq!(rt; character(&one[4]), Some('\0'));
-    assert_eq!(rt; character(&one[1]), character(&two[0]));
-    assert_eq!(rt; character(&one[2]), character(&two[1]));
-    assert_eq!(rt; character(&one[3]), character(&two[2]));
-    assert_eq!(rt; character(&one[4]), character(&two[3]));
+    assert_eq!(rt; character(one[1]), Some('a'));
+    assert_eq!(rt; character(one[3]), Some('b'));
+    assert_eq!(rt; character(one[4]), Some('\0'));
+    assert_eq!(rt; character(one[1]), character(two[0]));
+    assert_eq!(rt; character(one[2]), character(two[1]));
+    assert_eq!(rt; character(one[3]), character(two[2]));
+    assert_eq!(rt; character(one[4]), character(two[3]));
     Ok(())
 }
 
 #[test]
 fn fault_once(rt: HostRuntime) -> Result<(), Fail> {
-    let heap = rt.alloc();
     let slots = [Slot::Char('a'), Slot::Gap, Slot::Char('b'), Slot::Gap];
     let mut packets = Packets::new();
     packets.load(&slots, Link::Lost)?;
@@ -82,22 +87,18 @@ fn fault_once(rt: HostRuntime) -> Result<(), Fail> {
     codes.load(&[0x61, 0x62], CodesEnding::InputIo)?;
     let mut right = Stash::new(codes);
     let mut one = [
-        Step::new(heap, Call::SkipN(3)),
-        Step::new(heap, Call::TakeSourceError),
-        Step::new(heap, Call::TakeSourceError),
+        step(Call::SkipN(3)),
+        step(Call::TakeSourceError),
+        step(Call::TakeSourceError),
     ];
-    let mut two = [
-        Step::new(heap, Call::SkipN(3)),
-        Step::new(heap, Call::TakeSourceError),
-        Step::new(heap, Call::TakeSourceError),
-    ];
+    let mut two = one;
     let (held, beside) = receive_beside(&mut left, &mut right, &mut one, &mut two, None, None);
     end(held, &mut left);
     end(beside, &mut right);
-    assert_eq!(rt; fault(&one[1]), Some(LOST));
-    assert_eq!(rt; fault(&one[2]), None);
-    assert_eq!(rt; fault(&two[1]), Some(LOST));
-    assert_eq!(rt; fault(&two[2]), None);
+    assert_eq!(rt; fault(one[1]), Some(LOST));
+    assert_eq!(rt; fault(one[2]), None);
+    assert_eq!(rt; fault(two[1]), Some(LOST));
+    assert_eq!(rt; fault(two[2]), None);
     Ok(())
 }
 

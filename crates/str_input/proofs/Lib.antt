@@ -1,2 +1,5 @@
+pub mod Places
+pub mod Runs
+pub mod Fronts
+pub mod Markers
 pub mod Loading
-pub mod Scanning

@@ -2,7 +2,7 @@
 use Rattle.std.proofs.Common.{ℕ, List, [], IsUtf8, ap, arith}
 use Rattle.std.proofs.lemmas.Str.{encodes-chars, scalars-chars, IsCharBoundary-start}
 use Rattle.utf8.specs.Checking.{IsText, Checked, text, too_long, ill_formed}
-use Rattle.text_bytes.specs.Bytes.{Placed}
+use Rattle.str_input.specs.Bytes.{Placed}
 
 pub found_text : (bytes : List ℕ) → Checked bytes (0, []) → IsText bytes
 found_text bytes (text is e) = is

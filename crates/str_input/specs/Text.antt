@@ -7,7 +7,7 @@ use Rattle.std.specs.Str.{chars}
 use Rattle.error.specs.declared.Ending.TheVariants.{Clean}
 use Rattle.input.specs.View.{View, Sound, New}
 use Rattle.str_input.specs.declared.text.StrInput.{StrInput}
-use Rattle.text_bytes.specs.Bytes.{Placed, ahead_at, shows}
+use Rattle.str_input.specs.Bytes.{Placed, ahead_at, shows}
 
 -- all of the text's bytes, and the characters from the place on
 abbrev pub whole : StrInput → List ℕ
@@ -35,12 +35,6 @@ pub record Widens (n : ℕ) (x y : StrInput) : Type 0 where
   pub text : whole y ≡ whole x
   pub place : y.place ≡ x.place
   pub window : y.window ≡ max x.window n
-
--- both: so many characters are taken in a window that is raised first
-pub record TakesWide (asks n : ℕ) (x y : StrInput) : Type 0 where
-  pub text : whole y ≡ whole x
-  pub window : y.window ≡ max x.window asks
-  pub ahead : ahead_of y ≡ drop n (ahead_of x)
 
 -- all of a text is ahead
 pub record Opens (bytes : List ℕ) (x : StrInput) : Type 0 where

@@ -1,12 +1,12 @@
 //! Parts of the text, lent for as long as the text is.
 
 ghost use Rattle.std.specs.Prelude.{◌≡◌, ◌-◌, take, drop, MatchOption};
-ghost use Rattle.text_bytes.specs.Bytes.{Cut};
+ghost use Rattle.str_input.specs.Bytes.{Cut};
 ghost use Rattle.str_input.specs.Text.{whole};
 
+use crate::bytes::is_boundary;
 use crate::text::StrInput;
 use input::borrowed::BorrowedInput;
-use text_bytes::bytes::is_boundary;
 
 impl<'a> BorrowedInput<'a> for StrInput<'a> {
     /// A part of the whole text, also of what was taken. None where the bounds are reversed, beyond the text or off a character boundary.

@@ -7,14 +7,14 @@ ghost use Rattle.error.specs.Numbers.{outcome};
 ghost use Rattle.utf8.specs.Checking.{Checked};
 ghost use Rattle.input.specs.Calls.{none_left, taken_by, Looks, Reads, ReadsInLine, Skips, Tells, Asks};
 ghost use Rattle.input.specs.Tests.{flag, mark, Matches, Marks, marker_in};
-ghost use Rattle.text_bytes.specs.Bytes.{Placed, begins};
+ghost use Rattle.str_input.specs.Bytes.{Placed, begins};
 ghost use Rattle.str_input.specs.Text.{whole, ahead_of, text_view, text_shows, Takes, Widens, Opens, text_sound, text_faithful, text_wide};
 
+use crate::bytes::{begins_with, first_at, marker_at, nth, past};
 use crate::text::StrInput;
 use char_traits::is_breakz;
 use error::{Fault, Place, Refusal};
 use input::{Input, Marker};
-use text_bytes::bytes::{begins_with, first_at, marker_at, nth, past};
 use utf8::text::check_text;
 
 const MOST: usize = 128;
@@ -48,7 +48,7 @@ impl<'a> StrInput<'a> {
         Ok(())
     }
 
-    pub(crate) fn move_to(&mut self, next: usize)
+    fn move_to(&mut self, next: usize)
         requires { IsCharBoundary (whole self.old) next }
         ensures text { whole self.new ≡ whole self.old }
         ensures place { self.new.place ≡ next }

@@ -8,5 +8,3 @@ mod encoding;
 mod inputs;
 #[cfg(test)]
 mod lists;
-#[cfg(test)]
-mod scans;

@@ -9,6 +9,13 @@ use sides::radio::radio_and_card;
 use source::codes::{Codes, CodesEnding};
 use std::test::*;
 
+fn step(call: Call) -> Step {
+    Step {
+        call,
+        answer: Answer::Nothing,
+    }
+}
+
 fn character(step: &Step) -> char {
     match step.answer {
         Answer::Character(c) => c,
@@ -29,34 +36,29 @@ fn place(step: &Step) -> u16 {
     }
 }
 
-fn closed_whole(step: &Step) -> bool {
-    matches!(step.answer, Answer::Closed(Closing::Whole))
-}
-
 #[test]
 fn card_beside_cable(rt: HostRuntime) -> Result<(), Fail> {
-    let heap = rt.alloc();
     let mut source = Codes::new();
     source.load(&[0x61, 0xE9], CodesEnding::InputIo)?;
     let mut one = [
-        Step::new(heap, Call::Lookahead(2)),
-        Step::new(heap, Call::PeekNth(1)),
-        Step::new(heap, Call::Read),
-        Step::new(heap, Call::NextCh),
-        Step::new(heap, Call::SkipN(3)),
+        step(Call::Lookahead(2)),
+        step(Call::PeekNth(1)),
+        step(Call::Read),
+        step(Call::NextCh),
+        step(Call::SkipN(3)),
     ];
     let mut other = [
-        Step::new(heap, Call::Added(2)),
-        Step::new(heap, Call::Lookahead(2)),
-        Step::new(heap, Call::PeekNth(1)),
-        Step::new(heap, Call::Open),
-        Step::new(heap, Call::TakeSourceError),
-        Step::new(heap, Call::Read),
-        Step::new(heap, Call::NextCh),
-        Step::new(heap, Call::SkipN(3)),
-        Step::new(heap, Call::TakeSourceError),
-        Step::new(heap, Call::TakeSourceError),
-        Step::new(heap, Call::Close),
+        step(Call::Added(2)),
+        step(Call::Lookahead(2)),
+        step(Call::PeekNth(1)),
+        step(Call::Open),
+        step(Call::TakeSourceError),
+        step(Call::Read),
+        step(Call::NextCh),
+        step(Call::SkipN(3)),
+        step(Call::TakeSourceError),
+        step(Call::TakeSourceError),
+        step(Call::Close),
     ];
     card_and_cable("aé".as_bytes(), source, &mut one, &mut other)?;
     assert_eq!(rt; character(&one[1]), 'é');
@@ -74,30 +76,29 @@ fn card_beside_cable(rt: HostRuntime) -> Result<(), Fail> {
 
 #[test]
 fn radio_beside_card(rt: HostRuntime) -> Result<(), Fail> {
-    let heap = rt.alloc();
     let mut packets = Packets::new();
     packets.load(
         &[Slot::Gap, Slot::Char('a'), Slot::Gap, Slot::Char('b')],
         Link::Clean,
     )?;
     let mut one = [
-        Step::new(heap, Call::Read),
-        Step::new(heap, Call::LookCh),
-        Step::new(heap, Call::Skip),
-        Step::new(heap, Call::Close),
+        step(Call::Read),
+        step(Call::LookCh),
+        step(Call::Skip),
+        step(Call::Close),
     ];
     let mut other = [
-        Step::new(heap, Call::Read),
-        Step::new(heap, Call::LookCh),
-        Step::new(heap, Call::Skip),
-        Step::new(heap, Call::Close),
+        step(Call::Read),
+        step(Call::LookCh),
+        step(Call::Skip),
+        step(Call::Close),
     ];
     radio_and_card(packets, b"ab", &mut one, &mut other)?;
     assert_eq!(rt; character(&one[0]), 'a');
     assert_eq!(rt; character(&other[0]), 'a');
     assert_eq!(rt; character(&one[1]), 'b');
     assert_eq!(rt; character(&other[1]), 'b');
-    assert!(rt; closed_whole(&one[3]));
-    assert!(rt; closed_whole(&other[3]));
+    assert!(rt; matches!(one[3].answer, Answer::Closed(Closing::Whole)));
+    assert!(rt; matches!(other[3].answer, Answer::Closed(Closing::Whole)));
     Ok(())
 }

@@ -4,26 +4,26 @@ use Rattle.char_traits.specs.Chars.{line_break}
 use Rattle.listing.specs.Lines.{break_width}
 use Rattle.listing.proofs.Steps.{break_moves, break_inside}
 use Rattle.listing.proofs.cut_line.Goals as goal
-use Rattle.listing.proofs.cut_line.Goals.{then-loop-len-test+else-not-is-break, else-loop-len-test}
+use Rattle.listing.proofs.cut_line.Goals.{then-loop-len-test+else-not-is_break, else-loop-len-test}
 
-ends : (c : goal.After-width-of-break) → c.loop-len.len < length c.args.chars.now → line_break (get_or c.args.chars.now c.loop-len.len 0) ≡ true
+ends : (c : goal.After-width_of_break) → c.loop-len.len < length c.args.chars.now → line_break (get_or c.args.chars.now c.loop-len.len 0) ≡ true
 ends c h =
     elim c.loop-len-test.branch [
-      | then-loop-len-test+else-not-is-break w
+      | then-loop-len-test+else-not-is_break w
           ↦ let item = get_or_read c.args.chars.now c.loop-len.len w.index-chars-len.result h w.index-chars-len.is 0 in
-          ap line_break (sym item) ∙ sym w.is-break.ensures ∙ w.if-not-is-break.false
+          ap line_break (sym item) ∙ sym w.is_break.ensures ∙ w.if-not-is_break.false
       | else-loop-len-test w ↦ absurd (omega arith)
     ]
 
-width : (c : goal.After-width-of-break) → c.width-of-break.result ≡ break_width (drop c.loop-len.len c.args.chars.now)
-width c = rw take_rest at c.width-of-break.ensures
+width : (c : goal.After-width_of_break) → c.width_of_break.result ≡ break_width (drop c.loop-len.len c.args.chars.now)
+width c = rw take_rest at c.width_of_break.ensures
 
 first_or : (n : ℕ) → (n ≡ 0) ⊎ (0 < n)
 first_or zero = inl refl
 first_or (suc n) = inr (omega arith)
 
 -- either the line has a character, or a break stands at its start
-moves : (c : goal.After-width-of-break) → 0 < length c.args.chars.now → 0 < c.loop-len.len + c.width-of-break.result
+moves : (c : goal.After-width_of_break) → 0 < length c.args.chars.now → 0 < c.loop-len.len + c.width_of_break.result
 moves c h =
     elim (first_or c.loop-len.len) [
       | inl z

@@ -10,8 +10,8 @@ loop-c-preserved c =
     let i = c.loop-c.c-index in
     let h : i < length c.args.line.now = omega arith in
     let item = get_or_read c.args.line.now i c.c-item.result h c.c-item.is 0 in
-    drawn_more c.args.line.now (string_bytes c.loop-c.s) (string_bytes c.push.new.self) i c.drawn-char.result h
-    (c.drawn-char.ensures ∙ ap drawn item) c.in-ok-push.ensures.bytes c.loop-c.invariant
+    drawn_more c.args.line.now (string_bytes c.loop-c.s) (string_bytes c.push.new.self) i c.drawn_char.result h
+    (c.drawn_char.ensures ∙ ap drawn item) c.in_ok-push.ensures.bytes c.loop-c.invariant
 
 pub returns : goal.returns
 returns c = c.loop-c.invariant ∙ ap (λ xs. encodes (map drawn xs)) (take_all c.loop-c.c-index c.args.line.now (omega arith))

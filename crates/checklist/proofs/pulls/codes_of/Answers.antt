@@ -8,7 +8,7 @@ loop-n-preserved c =
     let h : c.loop-n.n < length c.args.chars.now = omega arith in
     let item = get_or_read c.args.chars.now c.loop-n.n c.index-chars-n.result h c.index-chars-n.is 0 in
     codes_more c.args.chars.now (vec_items c.loop-n.codes) (vec_items c.push.new.self) c.loop-n.n c.index-chars-n.result h item
-    c.in-ok-push.ensures.items c.loop-n.invariant
+    c.in_ok-push.ensures.items c.loop-n.invariant
 
 pub returns : goal.returns
 returns c = c.loop-n.invariant ∙ take_min c.args.most c.loop-n.n c.args.chars.now (omega arith)

@@ -8,6 +8,6 @@ loop-place-preserved c = (
   λ s l.
       let front = scalars_take (c.loop-place.place - 0) c.args.codes.now s in
       let short : length (take (c.loop-place.place - 0) c.args.codes.now) ≤ code_limit = simp length-take (omega arith) in
-      c.one-more-pulls.ensures.told (c.in-ok-told.ensures.told front short) (c.loop-place.invariant.0 s l),
-  λ h. let m = c.loop-place.invariant.1 h in let n = c.one-more-pulls.ensures.made (omega arith) in omega arith,
+      c.one_more-pulls.ensures.told (c.in_ok-told.ensures.told front short) (c.loop-place.invariant.0 s l),
+  λ h. let m = c.loop-place.invariant.1 h in let n = c.one_more-pulls.ensures.made (omega arith) in omega arith,
 )

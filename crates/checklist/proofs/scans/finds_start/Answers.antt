@@ -8,4 +8,4 @@ returns-in-Ok g c =
     let looks = c.lookahead.ensures in
     let wide : 4 ≤ (input.view c.lookahead.new.self).window = omega (arith, looks.wide, input.wide) in
     marker_told _ _ _ (λ n. get_or (drop c.args.place (input.view c.args.input.now).ahead) n 0) c.in-Ok.found wide
-    (λ n h. input.faithful c.lookahead.new.self n (omega arith) ∙ ap (λ a. get_or a n 0) (looks.ahead ∙ c.skip-n.ensures.ahead)) c.in-Ok.ensures
+    (λ n h. input.faithful c.lookahead.new.self n (omega arith) ∙ ap (λ a. get_or a n 0) (looks.ahead ∙ c.skip_n.ensures.ahead)) c.in-Ok.ensures

@@ -7,10 +7,10 @@ use Rattle.checklist.proofs.scans.next_after_skips.Goals as goal
 
 pub returns : goal.returns
 returns g c =
-    let e = c.skip-ws-to-eol.ensures.skims in
-    let p = c.skip-plain-run.ensures in
-    let s = c.skip-while-non-breakz.ensures in
-    let n = c.next-ch.ensures in
+    let e = c.skip_ws_to_eol.ensures.skims in
+    let p = c.skip_plain_run.ensures in
+    let s = c.skip_while_non_breakz.ensures in
+    let n = c.next_ch.ensures in
     record {
       ends =
           ap line_ends n.ahead ∙ printable_keeps _ _ _ s.number s.ahead ∙ plain_keeps _ _ _ p.number p.ahead
@@ -18,12 +18,12 @@ returns g c =
       fewer =
           (let x = ap length n.ahead in
           let a = (g.I.Input.view c.args.input.now).ahead in
-          let b = (g.I.Input.view c.skip-ws-to-eol.new.self).ahead in
-          let d = (g.I.Input.view c.skip-plain-run.new.self).ahead in
-          let f = (g.I.Input.view c.skip-while-non-breakz.new.self).ahead in
-          let y = dropped_fewer c.skip-while-non-breakz.result d f s.ahead in
-          let z = dropped_fewer c.skip-plain-run.result b d p.ahead in
-          let w = dropped_fewer c.skip-ws-to-eol.result.0 a b e.ahead in
+          let b = (g.I.Input.view c.skip_ws_to_eol.new.self).ahead in
+          let d = (g.I.Input.view c.skip_plain_run.new.self).ahead in
+          let f = (g.I.Input.view c.skip_while_non_breakz.new.self).ahead in
+          let y = dropped_fewer c.skip_while_non_breakz.result d f s.ahead in
+          let z = dropped_fewer c.skip_plain_run.result b d p.ahead in
+          let w = dropped_fewer c.skip_ws_to_eol.result.0 a b e.ahead in
           omega arith);
       next = n.next ∙ ap first_of (sym n.ahead);
     }

@@ -7,10 +7,10 @@ use Rattle.player.proofs.perform.comparing.Goals as goal
 
 pub returns-in-Two : goal.returns-in-Two
 returns-in-Two g c =
-    subst (λ (t : Comparison). Comparing (g.I.Input.shown c.args.input.now) (g.I.Input.view c.args.input.now) t (outcome flag c.next-2-are.result))
-    (sym c.in-Two.is) c.next-2-are.ensures
+    subst (λ (t : Comparison). Comparing (g.I.Input.shown c.args.input.now) (g.I.Input.view c.args.input.now) t (outcome flag c.next_2_are.result))
+    (sym c.in-Two.is) c.next_2_are.ensures
 
 pub returns-in-Three : goal.returns-in-Three
 returns-in-Three g c =
-    subst (λ (t : Comparison). Comparing (g.I.Input.shown c.args.input.now) (g.I.Input.view c.args.input.now) t (outcome flag c.next-3-are.result))
-    (sym c.in-Three.is) c.next-3-are.ensures
+    subst (λ (t : Comparison). Comparing (g.I.Input.shown c.args.input.now) (g.I.Input.view c.args.input.now) t (outcome flag c.next_3_are.result))
+    (sym c.in-Three.is) c.next_3_are.ensures

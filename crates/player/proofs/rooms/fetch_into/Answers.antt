@@ -5,7 +5,7 @@ use Rattle.player.proofs.rooms.fetch_into.Goals as goal
 pub returns : goal.returns
 returns g c = (
   fetched_text c.fetch-stopped.result.0 c.fetch-stopped.result.1.count c.appended-bytes.result.now c.fetch-stopped.result.1.refusal,
-  c.push-fetched-pushed.ensures,
+  c.push_fetched-pushed.ensures,
   (
     c.fetch-stopped.result,
     c.fetch-stopped.ensures,

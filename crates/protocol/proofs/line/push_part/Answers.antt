@@ -6,4 +6,4 @@ use Rattle.protocol.proofs.line.push_part.Goals as goal
 pub returns : goal.returns
 returns c =
     joined (string_bytes c.args.out.now) (codes "some ") (bytes_text c.args.part.now ++ (10 ∷ [])) _ _
-    c.in-ok-push-str.ensures.bytes c.in-ok-push-room.ensures
+    c.in_ok-push_str.ensures.bytes c.in_ok-push_room.ensures

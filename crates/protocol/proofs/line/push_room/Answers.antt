@@ -5,5 +5,5 @@ use Rattle.protocol.proofs.line.push_room.Goals as goal
 
 pub returns : goal.returns
 returns c =
-    joined (string_bytes c.args.out.now) (bytes_text c.args.bytes.now) (10 ∷ []) _ _ c.in-ok-push-bytes.ensures
-    c.in-ok-push-str.ensures.bytes
+    joined (string_bytes c.args.out.now) (bytes_text c.args.bytes.now) (10 ∷ []) _ _ c.in_ok-push_bytes.ensures
+    c.in_ok-push_str.ensures.bytes

@@ -7,4 +7,4 @@ use Rattle.protocol.proofs.line.push_run.Goals as goal
 pub returns : goal.returns
 returns c =
     joined_three (string_bytes c.args.out.now) (taken_text c.args.stopped c.args.count) (bytes_text c.args.bytes.now) (end_text c.args.refusal)
-    _ _ _ c.in-ok-push-taken.ensures c.in-ok-push-bytes.ensures c.in-ok-push-end.ensures
+    _ _ _ c.in_ok-push_taken.ensures c.in_ok-push_bytes.ensures c.in_ok-push_end.ensures

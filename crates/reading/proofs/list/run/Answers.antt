@@ -1,3 +1,4 @@
+use Rattle.std.proofs.Common.{refl}
 use Rattle.reading.proofs.Runs.{none, more, all}
 use Rattle.reading.proofs.list.run.Goals as goal
 
@@ -6,8 +7,9 @@ loop-step-init g c = none g.I.Input.prompt g.I.Input.most c.args.steps.now (g.I.
 
 pub loop-step-preserved : goal.loop-step-preserved
 loop-step-preserved g c =
-    more _ _ _ _ _ _ c.step-item.result _ _ _ c.loop-step.auto.steps c.loop-step-test.true c.loop-step.invariant c.perform-held.ensures.call
-    c.perform-held.ensures.filled c.perform-held.ensures.made (g.I.Input.sound c.perform-held.new.input)
+    let i = g.I.Input in
+    more _ _ c.loop-step.step-index c.args.steps.now c.loop-step.steps _ _ _ _ _ c.loop-step.auto.steps c.loop-step-test.true c.loop-step.invariant refl
+    (i.shown c.loop-step.input, i.faithful c.loop-step.input, c.answer_to-answer.ensures) (i.sound c.answer_to-answer.new.input)
 
 pub returns : goal.returns
 returns g c =

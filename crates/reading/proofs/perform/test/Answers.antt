@@ -7,10 +7,10 @@ use Rattle.reading.proofs.perform.test.Goals as goal
 
 pub returns-in-TwoAre : goal.returns-in-TwoAre
 returns-in-TwoAre g c =
-    subst (λ (t : Test). Tests t (g.I.Input.shown c.args.input.now) (g.I.Input.view c.args.input.now) (outcome flag c.next-2-are.result))
-    (sym c.in-TwoAre.is) c.next-2-are.ensures
+    subst (λ (t : Test). Tests t (g.I.Input.shown c.args.input.now) (g.I.Input.view c.args.input.now) (outcome flag c.next_2_are.result))
+    (sym c.in-TwoAre.is) c.next_2_are.ensures
 
 pub returns-in-ThreeAre : goal.returns-in-ThreeAre
 returns-in-ThreeAre g c =
-    subst (λ (t : Test). Tests t (g.I.Input.shown c.args.input.now) (g.I.Input.view c.args.input.now) (outcome flag c.next-3-are.result))
-    (sym c.in-ThreeAre.is) c.next-3-are.ensures
+    subst (λ (t : Test). Tests t (g.I.Input.shown c.args.input.now) (g.I.Input.view c.args.input.now) (outcome flag c.next_3_are.result))
+    (sym c.in-ThreeAre.is) c.next_3_are.ensures

@@ -7,33 +7,33 @@ use Rattle.runs.proofs.Asking.{run_short, ahead_short, skims_whole}
 use Rattle.runs.proofs.Eol.{no_comment, bare-comment, comment-after}
 use Rattle.runs.proofs.blanks.skip_to_eol.Goals as goal
 
-pub returns-then-peek-nth-ne35 : goal.returns-then-peek-nth-ne35
-returns-then-peek-nth-ne35 g c =
-    let u = c.skip-blanks-blanks.new.input in
-    let shown = c.peek-nth.ensures ∙ g.I.Input.faithful u 0 c.skip-blanks-blanks.ensures.looked in
-    no_comment _ _ _ _ _ _ c.skip-blanks-blanks.ensures.skips (ne_eqb _ 35 (λ e. c.if-peek-nth-ne35.true (shown ∙ e)))
+pub returns-then-peek_nth-ne35 : goal.returns-then-peek_nth-ne35
+returns-then-peek_nth-ne35 g c =
+    let u = c.skip_blanks-blanks.new.input in
+    let shown = c.peek_nth.ensures ∙ g.I.Input.faithful u 0 c.skip_blanks-blanks.ensures.looked in
+    no_comment _ _ _ _ _ _ c.skip_blanks-blanks.ensures.skips (ne_eqb _ 35 (λ e. c.if-peek_nth-ne35.true (shown ∙ e)))
 
 pub returns-then-blanks-eq0 : goal.returns-then-blanks-eq0
 returns-then-blanks-eq0 g c =
-    let u = c.skip-blanks-blanks.new.input in
-    let shown = c.peek-nth.ensures ∙ g.I.Input.faithful u 0 c.skip-blanks-blanks.ensures.looked in
-    bare-comment _ _ _ _ _ _ c.skip-blanks-blanks.ensures.skips (eq-eqb _ 35 (sym shown ∙ c.if-peek-nth-ne35.false)) c.if-blanks-eq0.true
+    let u = c.skip_blanks-blanks.new.input in
+    let shown = c.peek_nth.ensures ∙ g.I.Input.faithful u 0 c.skip_blanks-blanks.ensures.looked in
+    bare-comment _ _ _ _ _ _ c.skip_blanks-blanks.ensures.skips (eq-eqb _ 35 (sym shown ∙ c.if-peek_nth-ne35.false)) c.if-blanks-eq0.true
 
-pub overflow-add-result : goal.overflow-add-result
-overflow-add-result g c =
+pub overflow_add-result : goal.overflow_add-result
+overflow_add-result g c =
     let view = g.I.Input.view in
-    let u = c.skip-blanks-blanks.new.input in
-    let s = c.skip-blanks-blanks.ensures.skips.skims.number in
-    let a = run_short (goes (separates c.args.skip-tabs) Free) (view c.args.input.now).ahead in
+    let u = c.skip_blanks-blanks.new.input in
+    let s = c.skip_blanks-blanks.ensures.skips.skims.number in
+    let a = run_short (goes (separates c.args.skip_tabs) Free) (view c.args.input.now).ahead in
     let b = ahead_short (view c.args.input.now) (g.I.Input.sound c.args.input.now) in
-    let k = (skims_whole _ (goes not_breakz Free) _ _ (g.I.Input.sound u) _ c.skip-run-comment.ensures).number in
+    let k = (skims_whole _ (goes not_breakz Free) _ _ (g.I.Input.sound u) _ c.skip_run-comment.ensures).number in
     let d = run_short (goes not_breakz Free) (view u).ahead in
     let e = ahead_short (view u) (g.I.Input.sound u) in
     omega arith
 
 pub returns : goal.returns
 returns g c =
-    let u = c.skip-blanks-blanks.new.input in
-    let shown = c.peek-nth.ensures ∙ g.I.Input.faithful u 0 c.skip-blanks-blanks.ensures.looked in
-    comment-after _ _ _ _ _ _ c.skip-blanks-blanks.ensures.skips (eq-eqb _ 35 (sym shown ∙ c.if-peek-nth-ne35.false)) c.if-blanks-eq0.false _ _
-    (skims_whole _ (goes not_breakz Free) _ _ (g.I.Input.sound u) _ c.skip-run-comment.ensures)
+    let u = c.skip_blanks-blanks.new.input in
+    let shown = c.peek_nth.ensures ∙ g.I.Input.faithful u 0 c.skip_blanks-blanks.ensures.looked in
+    comment-after _ _ _ _ _ _ c.skip_blanks-blanks.ensures.skips (eq-eqb _ 35 (sym shown ∙ c.if-peek_nth-ne35.false)) c.if-blanks-eq0.false _ _
+    (skims_whole _ (goes not_breakz Free) _ _ (g.I.Input.sound u) _ c.skip_run-comment.ensures)

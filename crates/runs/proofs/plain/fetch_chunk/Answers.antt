@@ -18,8 +18,8 @@ returns-then-count-eq0 g c =
 pub returns : goal.returns
 returns g c =
     let some : 0 < c.args.count = (let n = c.if-count-eq0.false in omega arith) in
-    let fetch = sighted_fetch _ _ c.args.in-flow c.args.count _ _ _ _ _ _ _ _ c.colon-in-colon.ensures c.fetch-safe-taken.ensures in
+    let fetch = sighted_fetch _ _ c.args.in_flow c.args.count _ _ _ _ _ _ _ _ c.colon_in-colon.ensures c.fetch_safe-taken.ensures in
     record {
-      chunk = fetches_chunk _ c.args.in-flow _ c.args.count _ _ _ g.I.Input.wide some c.lookahead.ensures _ _ _ _ (omega arith) fetch _;
-      steps = steps-fetch _ c.args.in-flow _ c.args.count _ _ _ g.I.Input.wide some c.lookahead.ensures _ _ _ _ (omega arith) fetch;
+      chunk = fetches_chunk _ c.args.in_flow _ c.args.count _ _ _ g.I.Input.wide some c.lookahead.ensures _ _ _ _ (omega arith) fetch _;
+      steps = steps-fetch _ c.args.in_flow _ c.args.count _ _ _ g.I.Input.wide some c.lookahead.ensures _ _ _ _ (omega arith) fetch;
     }

@@ -10,5 +10,5 @@ returns-then-filled-room g c = fetch_beyond _ _ _ _ _ _ _ _ (g.I.Input.sound c.a
 
 pub returns : goal.returns
 returns g c =
-    fetches_after _ _ 2 _ _ _ g.I.Input.wide (omega arith) c.lookahead.ensures true (plain_run c.args.in-flow) _ _ _ _ (omega arith)
-    (fetches_whole _ (goes (plain_safe c.args.in-flow) Leads) _ _ (g.I.Input.sound c.lookahead.new.self) _ _ _ _ c.fetch-safe.ensures)
+    fetches_after _ _ 2 _ _ _ g.I.Input.wide (omega arith) c.lookahead.ensures true (plain_run c.args.in_flow) _ _ _ _ (omega arith)
+    (fetches_whole _ (goes (plain_safe c.args.in_flow) Leads) _ _ (g.I.Input.sound c.lookahead.new.self) _ _ _ _ c.fetch_safe.ensures)

@@ -10,8 +10,8 @@ returns-then-count-eq0 g c =
 pub returns : goal.returns
 returns g c =
     let some : 0 < c.args.count = (let n = c.if-count-eq0.false in omega arith) in
-    let skim = sighted_skip _ _ c.args.in-flow c.args.count _ _ _ _ _ c.colon-in-colon.ensures c.skip-safe-taken.ensures in
+    let skim = sighted_skip _ _ c.args.in_flow c.args.count _ _ _ _ _ c.colon_in-colon.ensures c.skip_safe-taken.ensures in
     record {
-      chunk = skips-chunk _ c.args.in-flow _ c.args.count _ _ _ g.I.Input.wide some c.lookahead.ensures c.skip-safe-taken.result skim _ refl;
-      steps = steps-chunk _ c.args.in-flow _ c.args.count _ _ _ g.I.Input.wide some c.lookahead.ensures c.skip-safe-taken.result skim _ refl refl;
+      chunk = skips-chunk _ c.args.in_flow _ c.args.count _ _ _ g.I.Input.wide some c.lookahead.ensures c.skip_safe-taken.result skim _ refl;
+      steps = steps-chunk _ c.args.in_flow _ c.args.count _ _ _ g.I.Input.wide some c.lookahead.ensures c.skip_safe-taken.result skim _ refl refl;
     }

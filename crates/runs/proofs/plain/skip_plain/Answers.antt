@@ -7,5 +7,5 @@ use Rattle.runs.proofs.plain.skip_plain.Goals as goal
 
 pub returns : goal.returns
 returns g c =
-    skims_after _ _ 2 _ _ _ g.I.Input.wide (omega arith) c.lookahead.ensures true (plain_run c.args.in-flow) _
-    (skims_whole _ (goes (plain_safe c.args.in-flow) Leads) _ _ (g.I.Input.sound c.lookahead.new.self) _ c.skip-safe.ensures)
+    skims_after _ _ 2 _ _ _ g.I.Input.wide (omega arith) c.lookahead.ensures true (plain_run c.args.in_flow) _
+    (skims_whole _ (goes (plain_safe c.args.in_flow) Leads) _ _ (g.I.Input.sound c.lookahead.new.self) _ c.skip_safe.ensures)

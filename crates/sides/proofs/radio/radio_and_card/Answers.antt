@@ -5,8 +5,8 @@ use Rattle.sides.proofs.radio.radio_and_card.Goals as goal
 pub returns : goal.returns
 returns c =
     let radio = c.new-radio.ensures in
-    let card = c.in-default.ensures.loads in
-    let both = c.receive-beside-held.ensures in
+    let card = c.in_default.ensures.loads in
+    let both = c.receive_beside-held.ensures in
     record {
       same = λ e g l. both.same g l (radio.ahead ∙ e ∙ sym card.ahead);
       one =

@@ -15,8 +15,8 @@ returns-then-byte-lt128 c =
       onward = (omega arith, omega arith);
     }
 
-pub overflow-add-result-in-Char : goal.overflow-add-result-in-Char
-overflow-add-result-in-Char c =
+pub overflow_add-result-in-Char : goal.overflow_add-result-in-Char
+overflow_add-result-in-Char c =
     let f = forward _ _ _ (c.in-Char.ensures.decodes.character _ _ refl) in
     let l = length-drop c.args.at c.args.text.now in
     omega arith

@@ -8,22 +8,22 @@ loop-place-preserved c = (
   omega arith,
   λ p.
       let b = c.loop-place.invariant.1 p in
-      let e = sym c.if-is-separator.ensures in
+      let e = sym c.if-is_separator.ensures in
       let h = c.loop-place-test.true in
       elim c.if-text-place-eq9.branch [
         | then-text-place-eq9 w ↦
-            blanking_as _ _ _ _ _ _ _ _ w.found-tabs-is w.has-valid-yaml-ws-is
+            blanking_as _ _ _ _ _ _ _ _ w.found_tabs-is w.has_valid_yaml_ws-is
             (blanking-tab _ _ _ _ _ _ b h e w.if-text-place-eq9.true)
         | else-text-place-eq9 w ↦
-            blanking_as _ _ _ _ _ _ _ _ w.found-tabs-is w.has-valid-yaml-ws-is
+            blanking_as _ _ _ _ _ _ _ _ w.found_tabs-is w.has_valid_yaml_ws-is
             (blanking-space _ _ _ _ _ _ b h e w.if-text-place-eq9.false)
       ],
 )
 
-pub returns-else-is-separator : goal.returns-else-is-separator
-returns-else-is-separator c =
+pub returns-else-is_separator : goal.returns-else-is_separator
+returns-else-is_separator c =
     let i = c.loop-place.invariant in
-    let e = sym c.if-is-separator.ensures in
+    let e = sym c.if-is_separator.ensures in
     let h = c.loop-place-test.true in
     record {
       ends = λ p. (blanked-stops _ _ _ p _ _ _ (i.1 p) h e).ends;

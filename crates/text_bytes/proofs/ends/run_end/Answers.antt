@@ -6,8 +6,8 @@ use Rattle.text_bytes.proofs.ends.run_end.Goals as goal
 pub loop-c-init : goal.loop-c-init
 loop-c-init g c = (omega arith, λ h. h, λ p. running_none _ _ _ p)
 
-pub overflow-add-count : goal.overflow-add-count
-overflow-add-count g c = let h = c.in-Some.ensures.onward in omega arith
+pub overflow_add-count : goal.overflow_add-count
+overflow_add-count g c = let h = c.in-Some.ensures.onward in omega arith
 
 pub loop-c-smaller : goal.loop-c-smaller
 loop-c-smaller g c = let h = c.in-Some.ensures.onward in omega arith
@@ -20,24 +20,24 @@ loop-c-preserved g c =
       λ p.
           let r = c.loop-c.invariant.2 p in
           let s = c.in-Some.ensures.first r.placed in
-          running_more _ _ _ _ _ r _ _ _ s (c.goes-on.ensures (moved _ _ _ p s.boundary)) c.if-not-goes-on.false,
+          running_more _ _ _ _ _ r _ _ _ s (c.goes_on.ensures (moved _ _ _ p s.boundary)) c.if-not-goes_on.false,
     )
 
-pub returns-then-not-goes-on : goal.returns-then-not-goes-on
-returns-then-not-goes-on g c =
+pub returns-then-not-goes_on : goal.returns-then-not-goes_on
+returns-then-not-goes_on g c =
     record {
       ends = λ p.
           let r = c.loop-c.invariant.2 p in
           let s = c.in-Some.ensures.first r.placed in
-          running-stops _ _ _ _ _ r p _ _ _ s (c.goes-on.ensures (moved _ _ _ p s.boundary)) c.if-not-goes-on.true;
+          running-stops _ _ _ _ _ r p _ _ _ s (c.goes_on.ensures (moved _ _ _ p s.boundary)) c.if-not-goes_on.true;
       onward = omega arith;
       inside = c.loop-c.invariant.1;
     }
 
-pub returns-in-default : goal.returns-in-default
-returns-in-default g c =
+pub returns-in_default : goal.returns-in_default
+returns-in_default g c =
     record {
-      ends = λ p. let r = c.loop-c.invariant.2 p in running-out _ _ _ _ _ r p (c.in-default.ensures.first r.placed);
+      ends = λ p. let r = c.loop-c.invariant.2 p in running-out _ _ _ _ _ r p (c.in_default.ensures.first r.placed);
       onward = omega arith;
       inside = c.loop-c.invariant.1;
     }

@@ -7,4 +7,4 @@ pub returns : goal.returns
 returns c =
     let l = length-drop c.args.at c.args.text.now in
     let n : c.args.end - c.args.at ≡ c.args.filled + (c.args.end - c.args.at) - c.args.filled = omega arith in
-    copied c.args.room.now _ _ c.args.filled _ c.copy-from-slice.ensures.after (length-take-le _ (drop c.args.at c.args.text.now) (omega arith) ∙ n)
+    copied c.args.room.now _ _ c.args.filled _ c.copy_from_slice.ensures.after (length-take-le _ (drop c.args.at c.args.text.now) (omega arith) ∙ n)

@@ -8,7 +8,7 @@ returns-then-end-at c =
 
 pub returns-else-end-at : goal.returns-else-end-at
 returns-else-end-at c =
-    let f = c.fitting-end.ensures in
+    let f = c.fitting_end.ensures in
     record {
       ends = λ run p e. cut_short _ _ run _ _ p e c.args.free _ _ c.if-end-at.false (f.ends p);
       onward = f.onward;

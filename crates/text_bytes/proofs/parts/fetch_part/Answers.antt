@@ -5,7 +5,7 @@ use Rattle.text_bytes.proofs.Fitting.{fills_part}
 use Rattle.text_bytes.proofs.parts.fetch_part.Goals as goal
 use Rattle.text_bytes.proofs.parts.fetch_part.Goals.{then-taken-count, else-taken-count}
 
-told : (c : goal.Joined-taken-count) → refused c.if-taken-count.refusal ≡ cond (ltb c.cut-to-fit-cut.result.1 c.args.count) (7, []) (0, [])
+told : (c : goal.Joined-taken-count) → refused c.if-taken-count.refusal ≡ cond (ltb c.cut_to_fit-cut.result.1 c.args.count) (7, []) (0, [])
 told c =
     elim c.if-taken-count.branch [
       | then-taken-count w ↦ ap refused w.refusal-is ∙ sym (cond-true _ _ _ (lt-ltb _ _ w.if-taken-count.true))
@@ -15,5 +15,5 @@ told c =
 pub returns : goal.returns
 returns c =
     λ run p e.
-    fills_part _ _ run _ _ p e c.args.room.now c.args.filled _ _ _ c.requires.1.1 (c.cut-to-fit-cut.ensures.ends run p e) refl (told c)
-    c.copy-part.ensures
+    fills_part _ _ run _ _ p e c.args.room.now c.args.filled _ _ _ c.requires.1.1 (c.cut_to_fit-cut.ensures.ends run p e) refl (told c)
+    c.copy_part.ensures

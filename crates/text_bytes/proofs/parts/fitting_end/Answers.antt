@@ -5,8 +5,8 @@ use Rattle.text_bytes.proofs.parts.fitting_end.Goals as goal
 pub loop-next-init : goal.loop-next-init
 loop-next-init c = (omega arith, c.requires, λ p. fitted_none _ _ _ p)
 
-pub overflow-add-count : goal.overflow-add-count
-overflow-add-count c = let h = c.in-Some.ensures.onward in omega arith
+pub overflow_add-count : goal.overflow_add-count
+overflow_add-count c = let h = c.in-Some.ensures.onward in omega arith
 
 pub loop-next-smaller : goal.loop-next-smaller
 loop-next-smaller c = let h = c.in-Some.ensures.onward in omega arith
@@ -29,10 +29,10 @@ returns-then-next-limit c =
       low = c.loop-next.invariant.1;
     }
 
-pub returns-in-default : goal.returns-in-default
-returns-in-default c =
+pub returns-in_default : goal.returns-in_default
+returns-in_default c =
     record {
-      ends = λ p. let f = c.loop-next.invariant.2 p in fitted-out _ _ _ _ _ f p (c.in-default.ensures.first f.placed);
+      ends = λ p. let f = c.loop-next.invariant.2 p in fitted-out _ _ _ _ _ f p (c.in_default.ensures.first f.placed);
       onward = omega arith;
       low = c.loop-next.invariant.1;
     }

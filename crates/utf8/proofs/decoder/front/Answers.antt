@@ -9,14 +9,14 @@ returns-then-rest-eq0 c = decodes_end c.args.rest.now (nil_from_length c.args.re
 
 pub returns-then-rest-width : goal.returns-then-rest-width
 returns-then-rest-width c =
-    decodes_ill c.args.rest.now (ill c.args.rest.now c.width-of-width.result c.width-of-width.ensures (omega arith) (λ h. absurd (omega arith)))
+    decodes_ill c.args.rest.now (ill c.args.rest.now c.width_of-width.result c.width_of-width.ensures (omega arith) (λ h. absurd (omega arith)))
 
 pub returns-in-Some : goal.returns-in-Some
 returns-in-Some c =
-    decodes_char c.args.rest.now c.in-Some.c c.width-of-width.result
-    (char_of c.args.rest.now c.in-Some.c c.width-of-width.result (omega arith) (simp sub-zero at c.in-Some.ensures))
+    decodes_char c.args.rest.now c.in-Some.c c.width_of-width.result
+    (char_of c.args.rest.now c.in-Some.c c.width_of-width.result (omega arith) (simp sub-zero at c.in-Some.ensures))
 
 pub returns-in-None : goal.returns-in-None
 returns-in-None c =
     decodes_ill c.args.rest.now
-    (ill c.args.rest.now c.width-of-width.result c.width-of-width.ensures (omega arith) (λ h. simp sub-zero at c.in-None.ensures))
+    (ill c.args.rest.now c.width_of-width.result c.width_of-width.ensures (omega arith) (λ h. simp sub-zero at c.in-None.ensures))

@@ -12,14 +12,14 @@ past c =
     let l = length-drop c.loop-width.at c.args.bytes.now in
     (f.0, omega arith)
 
-pub returns-then-is-too-long : goal.returns-then-is-too-long
-returns-then-is-too-long c = record { checked = too_long (ltb-true _ _ (sym c.if-is-too-long.ensures)) refl; agree = agree }
+pub returns-then-is_too_long : goal.returns-then-is_too_long
+returns-then-is_too_long c = record { checked = too_long (ltb-true _ _ (sym c.if-is_too_long.ensures)) refl; agree = agree }
 
 pub loop-width-init : goal.loop-width-init
-loop-width-init c = (omega arith, ltb-false _ _ (sym c.if-is-too-long.ensures), formed_none)
+loop-width-init c = (omega arith, ltb-false _ _ (sym c.if-is_too_long.ensures), formed_none)
 
-pub overflow-add-at : goal.overflow-add-at
-overflow-add-at c = let p = past c in omega arith
+pub overflow_add-at : goal.overflow_add-at
+overflow_add-at c = let p = past c in omega arith
 
 pub loop-width-smaller : goal.loop-width-smaller
 loop-width-smaller c = let p = past c in omega arith
@@ -28,8 +28,8 @@ pub loop-width-preserved : goal.loop-width-preserved
 loop-width-preserved c =
     ((past c).1, c.loop-width.invariant.1, formed_more _ _ _ _ c.loop-width.invariant.2 (c.in-Char.ensures.decodes.character _ _ refl))
 
-pub overflow-cast-result : goal.overflow-cast-result
-overflow-cast-result c = let h = place_fits c.loop-width.at (omega arith) in omega arith
+pub overflow_cast-result : goal.overflow_cast-result
+overflow_cast-result c = let h = place_fits c.loop-width.at (omega arith) in omega arith
 
 pub returns-in-IllFormed : goal.returns-in-IllFormed
 returns-in-IllFormed c =

@@ -4,8 +4,8 @@ use Rattle.buffered.specs.Buffered.{ring_sound}
 use Rattle.buffered.proofs.Taking.{keeps-next, first-held, line_break}
 use Rattle.buffered.proofs.buffered_input.BufferedInputInput.raw_read_non_breakz_ch.Goals as goal
 
-pub returns-in-default : goal.returns-in-default
-returns-in-default g c =
+pub returns-in_default : goal.returns-in_default
+returns-in_default g c =
     let x = c.args.self.now in
     let y = c.fill.new.self in
     let one = c.fill.ensures.fills in
@@ -18,7 +18,7 @@ returns-in-default g c =
             told = refl;
             ahead = one.same;
             character =
-                line_break (all_of g.S.Source.ahead x.store) c.first.result c.in-Some.c first c.in-Some.is (sym c.if-not-is-breakz.ensures);
+                line_break (all_of g.S.Source.ahead x.store) c.first.result c.in-Some.c first c.in-Some.is (sym c.if-not-is_breakz.ensures);
           };
       feeds = c.fill.ensures.feeds;
     }

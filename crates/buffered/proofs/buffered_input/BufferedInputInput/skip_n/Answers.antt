@@ -11,18 +11,18 @@ loop-left-init g c =
       beside g.S.Source.ahead g.S.Source.kept g.S.Source.ended x.store x.store.ring,
     )
 
-pub returns-then-is-none : goal.returns-then-is-none
-returns-then-is-none g c =
+pub returns-then-is_none : goal.returns-then-is_none
+returns-then-is_none g c =
     record {
       skips =
           skip_end true _ c.loop-left.left _ _ _ c.take.result c.loop-left.invariant.0 (omega (arith, c.loop-left-test.true)) c.take.ensures.takes
-          c.if-is-none.ensures;
+          c.if-is_none.ensures;
       feeds = feeds_on g.S.Source.ahead g.S.Source.kept g.S.Source.ended _ _ _ c.loop-left.invariant.1 c.take.ensures.feeds;
     }
 
 pub loop-left-preserved : goal.loop-left-preserved
 loop-left-preserved g c = (
   skip_more true _ c.loop-left.left _ _ _ c.take.result c.loop-left.invariant.0 (omega (arith, c.loop-left-test.true)) c.take.ensures.takes
-      c.if-is-none.ensures,
+      c.if-is_none.ensures,
   feeds_on g.S.Source.ahead g.S.Source.kept g.S.Source.ended _ _ _ c.loop-left.invariant.1 c.take.ensures.feeds,
 )

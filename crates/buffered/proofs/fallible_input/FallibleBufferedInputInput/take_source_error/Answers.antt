@@ -14,6 +14,6 @@ returns g c =
     let source = g.F.FallibleSource in
     let sound = failing_sound source.ahead source.ending source.characters source.short c.args.self.now in
     record {
-      asks = asked_first _ c.met-fault-fault.result c.is-some-self.result sound c.if-self.false c.met-fault-fault.ensures c.is-some-self.ensures;
+      asks = asked_first _ c.met_fault-fault.result c.is_some-self.result sound c.if-self.false c.met_fault-fault.ensures c.is_some-self.ensures;
       still = λ _. refl;
     }

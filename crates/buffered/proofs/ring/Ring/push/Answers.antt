@@ -3,8 +3,8 @@ use lib.Utf8.{scalar}
 use Rattle.buffered.specs.Rings.{held_push, scalars_set}
 use Rattle.buffered.proofs.ring.Ring.push.Goals as goal
 
-pub invariant-of-self : goal.invariant-of-self
-invariant-of-self c =
+pub invariant_of-self : goal.invariant_of-self
+invariant_of-self c =
     let s : scalar c.args.c ≡ true = search rules in
     (scalars_set c.args.self.now.places _ c.args.c s c.args.self.now.characters, (c.args.self.now.inside, (omega (arith, c.requires), tt)))
 

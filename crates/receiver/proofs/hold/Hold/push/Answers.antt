@@ -4,8 +4,8 @@ use Rattle.std.proofs.lemmas.List.{length-set, take_more_set}
 use Rattle.receiver.proofs.Holding.{scalars_set}
 use Rattle.receiver.proofs.hold.Hold.push.Goals as goal
 
-pub invariant-of-self : goal.invariant-of-self
-invariant-of-self c =
+pub invariant_of-self : goal.invariant_of-self
+invariant_of-self c =
     let h = c.args.self.now in
     let s : scalar c.args.c ≡ true = search rules in
     (length-set h.places _ _ ∙ h.row, (scalars_set h.places _ c.args.c s h.characters, (omega (arith, c.requires), tt)))

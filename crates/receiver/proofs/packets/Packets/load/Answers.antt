@@ -9,9 +9,9 @@ unfolding slot_limit
 returns-then-slots-gt-SLOT-LIMIT c =
     record { answers = sym (ap (λ (b : Bool). cond b (1, []) (0, [])) (is_below _ _ c.if-slots-gt-SLOT-LIMIT.true)); loads = refl }
 
-pub invariant-of-self : goal.invariant-of-self
+pub invariant_of-self : goal.invariant_of-self
 unfolding slot_limit
-invariant-of-self c = (c.if-slots-gt-SLOT-LIMIT.false, (omega arith, (omega arith, tt)))
+invariant_of-self c = (c.if-slots-gt-SLOT-LIMIT.false, (omega arith, (omega arith, tt)))
 
 pub returns : goal.returns
 unfolding slot_limit

@@ -11,8 +11,8 @@ size p = length p.slots.now
 abbrev place_of : Packets → ℕ
 place_of p = p.place
 
-pub overflow-add-self-in-Some : goal.overflow-add-self-in-Some
-overflow-add-self-in-Some c =
+pub overflow_add-self-in-Some : goal.overflow_add-self-in-Some
+overflow_add-self-in-Some c =
     let p = c.loop-at.self in
     let e = ap size c.loop-at.invariant.0 in
     let f = few p.slots.now p.short in
@@ -36,7 +36,7 @@ loop-at-preserved c =
     let p = c.loop-at.self in
     let i = c.loop-at.invariant in
     let e = ap size i.0 in
-    (i.0, sym (gap_more p.slots.now c.loop-at.at (omega arith) c.in-default.ensures) ∙ i.1)
+    (i.0, sym (gap_more p.slots.now c.loop-at.at (omega arith) c.in_default.ensures) ∙ i.1)
 
 pub returns : goal.returns
 returns c =

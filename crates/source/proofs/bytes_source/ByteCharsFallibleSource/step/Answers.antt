@@ -9,20 +9,20 @@ use Rattle.source.proofs.bytes_source.ByteCharsFallibleSource.step.Goals as goal
 inside : (c : goal.In-Char) → (1 ≤ c.in-Char.width) × (c.args.self.now.place + c.in-Char.width ≤ length c.args.self.now.bytes.now)
 inside c = past _ c.args.self.now.place _ _ c.args.self.now.inside (c.in-Char.ensures.decodes.character _ _ refl)
 
-pub overflow-add-self : goal.overflow-add-self
-overflow-add-self c =
+pub overflow_add-self : goal.overflow_add-self
+overflow_add-self c =
     let p = inside c in
     let f = place_fits _ c.args.self.now.short in
     omega arith
 
-pub overflow-add-self-in-Char : goal.overflow-add-self-in-Char
-overflow-add-self-in-Char c =
+pub overflow_add-self-in-Char : goal.overflow_add-self-in-Char
+overflow_add-self-in-Char c =
     let p = inside c in
     let f = place_fits _ c.args.self.now.short in
     omega (arith, c.args.self.now.counted)
 
-pub invariant-of-self : goal.invariant-of-self
-invariant-of-self c =
+pub invariant_of-self : goal.invariant_of-self
+invariant_of-self c =
     let p = inside c in
     (c.args.self.now.short, (p.1, (omega (arith, c.args.self.now.counted), tt)))
 

@@ -5,8 +5,8 @@ use Rattle.source.specs.CodeLimit.{codes_fit}
 use Rattle.source.proofs.Listed.{moves, at_end, at_bad}
 use Rattle.source.proofs.codes_source.CodesFallibleSource.step.Goals as goal
 
-pub overflow-add-self : goal.overflow-add-self
-overflow-add-self c =
+pub overflow_add-self : goal.overflow_add-self
+overflow_add-self c =
     let s = c.args.self.now in
     let f = codes_fit (length s.codes.now) s.short in
     let p = place_fits (length s.codes.now) (omega arith) in

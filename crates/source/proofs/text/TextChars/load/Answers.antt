@@ -3,17 +3,17 @@ use Rattle.std.proofs.lemmas.Result.{err_from_is_err_and}
 use Rattle.source.proofs.Texts.{pass}
 use Rattle.source.proofs.text.TextChars.load.Goals as goal
 
-pub returns-in-err-check-text : goal.returns-in-err-check-text
-returns-in-err-check-text c =
+pub returns-in_err-check_text : goal.returns-in_err-check_text
+returns-in_err-check_text c =
     let p = err_from_is_err_and c.from-residual.result c.from-residual.ensures.1 in
-    rw (p.1, p.2) (record { checked = c.in-err-check-text.ensures.checked; loads = refl })
+    rw (p.1, p.2) (record { checked = c.in_err-check_text.ensures.checked; loads = refl })
 
-pub invariant-of-self : goal.invariant-of-self
-invariant-of-self c =
-    let p = pass c.args.bytes.now c.in-ok-check-text.ensures.checked in
+pub invariant_of-self : goal.invariant_of-self
+invariant_of-self c =
+    let p = pass c.args.bytes.now c.in_ok-check_text.ensures.checked in
     (p.short, (p.formed, (p.characters, (p.start, tt))))
 
 pub returns : goal.returns
 returns c =
-    let p = pass c.args.bytes.now c.in-ok-check-text.ensures.checked in
-    record { checked = c.in-ok-check-text.ensures.checked; loads = p.formed }
+    let p = pass c.args.bytes.now c.in_ok-check_text.ensures.checked in
+    record { checked = c.in_ok-check_text.ensures.checked; loads = p.formed }

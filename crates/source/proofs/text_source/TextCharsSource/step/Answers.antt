@@ -6,15 +6,15 @@ use Rattle.source.specs.Texts.{rest_is_text}
 use Rattle.source.proofs.Texts.{past, step_boundary, step_ahead, never_ill_text}
 use Rattle.source.proofs.text_source.TextCharsSource.step.Goals as goal
 
-pub overflow-add-self : goal.overflow-add-self
-overflow-add-self c =
+pub overflow_add-self : goal.overflow_add-self
+overflow_add-self c =
     let s = c.args.self.now in
     let p = past s.text.now s.place _ _ s.boundary.0 (c.in-Char.ensures.decodes.character _ _ refl) in
     let f = place_fits _ s.short in
     omega arith
 
-pub invariant-of-self : goal.invariant-of-self
-invariant-of-self c =
+pub invariant_of-self : goal.invariant_of-self
+invariant_of-self c =
     let s = c.args.self.now in
     (s.short, (s.formed, (s.characters, (step_boundary s.text.now s.place _ _ s.boundary.0 (rest_is_text s) (c.in-Char.ensures.decodes.character _ _ refl), tt))))
 

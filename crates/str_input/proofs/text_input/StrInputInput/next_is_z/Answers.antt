@@ -1,5 +1,5 @@
 use Rattle.str_input.specs.Text.{whole, placed}
-use Rattle.text_bytes.proofs.Places.{none_at}
+use Rattle.str_input.proofs.Places.{none_at}
 use Rattle.str_input.proofs.text_input.StrInputInput.next_is_z.Goals as goal
 
 pub returns : goal.returns

@@ -1,0 +1,15 @@
+use Rattle.std.proofs.Common.{◌∙◌}
+use Rattle.std.proofs.lemmas.Bool.{both_ways}
+use Rattle.str_input.proofs.Markers.{is_marker_lem, no_marker}
+use Rattle.str_input.proofs.bytes.is_marker.Goals as goal
+
+pub returns-then-is_thrice : goal.returns-then-is_thrice
+returns-then-is_thrice c =
+    c.ends_marker.ensures
+    ∙ is_marker_lem c.args.text.now c.args.at c.args.byte c.requires.0 c.requires.1.0 c.requires.1.1 (c.is_thrice.ensures.0 c.if-is_thrice.true)
+
+pub returns-else-is_thrice : goal.returns-else-is_thrice
+returns-else-is_thrice c =
+    c.if-is_thrice.false
+    ∙ no_marker c.args.text.now c.args.at c.args.byte c.requires.0 c.requires.1.0 c.requires.1.1
+    (λ t. both_ways _ c.if-is_thrice.false (c.is_thrice.ensures.1 t))

@@ -1,0 +1,50 @@
+-- Characters in the bytes of a text. Assumes nothing.
+use Rattle.std.specs.Prelude.{◌≡◌, ℕ, ◌+◌, ◌≤◌, Bool, true, false, ◌&&◌, List, [], ◌∷◌, length, drop, Option, MatchOption, ◌==◌, slice_index, slice_index_or}
+use Rattle.std.proofs.Math.Utf8.{encodes, scalars}
+use Rattle.std.specs.Str.{IsCharBoundary, chars}
+
+-- well-formed bytes, and a place between two of their characters
+pub record Placed (text : List ℕ) (at : ℕ) : Type 0 where
+  pub formed : encodes (chars text) ≡ text
+  pub characters : scalars (chars text) ≡ true
+  pub boundary : IsCharBoundary text at
+
+-- the characters from a place on
+abbrev pub ahead_at : List ℕ → ℕ → List ℕ
+ahead_at text at = chars (drop at text)
+
+-- what is shown at each place: NUL past the end
+abbrev pub shows : List ℕ → ℕ → ℕ
+shows ahead n = slice_index ahead n
+
+-- a character, and the place after it
+pub record Steps (text : List ℕ) (at c next : ℕ) : Type 0 where
+  pub first : ahead_at text at ≡ c ∷ ahead_at text next
+  pub boundary : IsCharBoundary text next
+
+abbrev pub FirstAt : List ℕ → ℕ → Option (ℕ × ℕ) → Type 0
+FirstAt text at r = MatchOption r (ahead_at text at ≡ []) (λ found. Steps text at found.0 found.1)
+
+-- so many characters on, or at the end
+pub record Passes (text : List ℕ) (at n next : ℕ) : Type 0 where
+  pub ahead : ahead_at text next ≡ drop n (ahead_at text at)
+  pub boundary : IsCharBoundary text next
+
+-- the characters wanted are there, first of those ahead
+abbrev pub begins : List ℕ → List ℕ → Bool
+begins [] ahead = true
+begins (c ∷ wanted) [] = false
+begins (c ∷ wanted) (a ∷ ahead) = a == c && begins wanted ahead
+
+-- a byte three times, from a place on
+pub record Thrice (text : List ℕ) (at byte : ℕ) : Type 0 where
+  pub long : at + 3 ≤ length text
+  pub first : slice_index_or text at 0 ≡ byte
+  pub second : slice_index_or text (at + 1) 0 ≡ byte
+  pub third : slice_index_or text (at + 2) 0 ≡ byte
+
+-- bounds in their order, each between two characters
+pub record Cut (text : List ℕ) (start end : ℕ) : Type 0 where
+  pub order : start ≤ end
+  pub from : IsCharBoundary text start
+  pub to : IsCharBoundary text end
