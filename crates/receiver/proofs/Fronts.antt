@@ -1,6 +1,6 @@
 -- Characters wanted, held against those that are shown. Assumes nothing.
 use Rattle.std.proofs.Common.{◌≡◌, ℕ, Bool, true, not, eqb, List, [], ◌∷◌, ◌++◌, length, take, drop, Decides, sym, refl, ap, ◌∙◌, ap₂}
-use Rattle.std.specs.Cmp.Lexicographic.{Matches}
+use Rattle.std.specs.List.{starts_with}
 use Rattle.std.proofs.lemmas.Slice.Eq.{starts_is}
 use Rattle.std.proofs.lemmas.Bool.{and_parts, and_from}
 use Rattle.std.proofs.lemmas.Bool.Decides.{same_from_decides, Decides-eqb}
@@ -22,8 +22,7 @@ front_found : (ws rest : List ℕ) → found (shows (ws ++ rest)) ws ≡ true
 front_found [] rest = refl
 front_found (c ∷ ws) rest = and_from (eqb c c) _ ((Decides-eqb c c).1 refl) (front_found ws rest)
 
-pub begins : (xs ws : List ℕ) (r : Bool) → Matches (λ (a b : ℕ) (t : Bool). Decides t (a ≡ b)) ws (take (length ws) xs) r → without_nul ws ≡ true
-    → r ≡ found (shows xs) ws
+pub begins : (xs ws : List ℕ) (r : Bool) → r ≡ starts_with eqb xs ws → without_nul ws ≡ true → r ≡ found (shows xs) ws
 begins xs ws r m n =
     let s = starts_is Decides-eqb xs ws r m in
     same_from_decides r (found (shows xs) ws) (s.0, s.1 (drop (length ws) xs))

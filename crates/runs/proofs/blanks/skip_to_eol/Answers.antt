@@ -4,7 +4,7 @@ use Rattle.char_traits.specs.Chars.{not_breakz}
 use Rattle.runs.specs.declared.Colon.TheVariants.{Free}
 use Rattle.runs.specs.Runs.{goes, separates, at_hash}
 use Rattle.runs.proofs.Asking.{run_short, ahead_short, skims_whole}
-use Rattle.runs.proofs.Eol.{no_comment, bare-comment, comment-after}
+use Rattle.runs.proofs.Eol.{no_comment, bare_comment, comment_after}
 use Rattle.runs.proofs.blanks.skip_to_eol.Goals as goal
 
 pub returns-then-peek_nth-ne35 : goal.returns-then-peek_nth-ne35
@@ -17,7 +17,7 @@ pub returns-then-blanks-eq0 : goal.returns-then-blanks-eq0
 returns-then-blanks-eq0 g c =
     let u = c.skip_blanks-blanks.new.input in
     let shown = c.peek_nth.ensures ∙ g.I.Input.faithful u 0 c.skip_blanks-blanks.ensures.looked in
-    bare-comment _ _ _ _ _ _ c.skip_blanks-blanks.ensures.skips (eq-eqb _ 35 (sym shown ∙ c.if-peek_nth-ne35.false)) c.if-blanks-eq0.true
+    bare_comment _ _ _ _ _ _ c.skip_blanks-blanks.ensures.skips (eq-eqb _ 35 (sym shown ∙ c.if-peek_nth-ne35.false)) c.if-blanks-eq0.true
 
 pub overflow_add-result : goal.overflow_add-result
 overflow_add-result g c =
@@ -35,5 +35,5 @@ pub returns : goal.returns
 returns g c =
     let u = c.skip_blanks-blanks.new.input in
     let shown = c.peek_nth.ensures ∙ g.I.Input.faithful u 0 c.skip_blanks-blanks.ensures.looked in
-    comment-after _ _ _ _ _ _ c.skip_blanks-blanks.ensures.skips (eq-eqb _ 35 (sym shown ∙ c.if-peek_nth-ne35.false)) c.if-blanks-eq0.false _ _
+    comment_after _ _ _ _ _ _ c.skip_blanks-blanks.ensures.skips (eq-eqb _ 35 (sym shown ∙ c.if-peek_nth-ne35.false)) c.if-blanks-eq0.false _ _
     (skims_whole _ (goes not_breakz Free) _ _ (g.I.Input.sound u) _ c.skip_run-comment.ensures)

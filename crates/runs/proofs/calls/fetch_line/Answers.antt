@@ -9,4 +9,4 @@ pub returns-then-filled-room : goal.returns-then-filled-room
 returns-then-filled-room g c = fetch_beyond _ _ _ _ _ _ _ _ (g.I.Input.sound c.args.input.now) (omega arith) c.new.ensures
 
 pub returns : goal.returns
-returns g c = fetches_whole _ (goes not_breakz Free) _ _ (g.I.Input.sound c.args.input.now) _ _ _ _ c.run_fetched.ensures
+returns g c = fetches_whole _ (goes not_breakz Free) _ _ (g.I.Input.sound c.args.input.now) _ _ _ _ c.fetch_run.ensures

@@ -11,4 +11,4 @@ pub returns : goal.returns
 returns g c =
     fetches_scan _ _ _ _ _ _ _ _ _
     (fetches_after _ _ 1 _ _ _ g.I.Input.wide (omega arith) c.lookahead.ensures true (run_of g.C.Class.member) _ _ _ _ (omega arith)
-    (fetches_whole _ (goes g.C.Class.member Free) _ _ (g.I.Input.sound c.lookahead.new.self) _ _ _ _ c.run_fetched.ensures))
+    (fetches_whole _ (goes g.C.Class.member Free) _ _ (g.I.Input.sound c.lookahead.new.self) _ _ _ _ c.fetch_run.ensures))

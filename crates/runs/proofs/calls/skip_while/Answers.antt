@@ -8,4 +8,4 @@ pub returns : goal.returns
 returns g c =
     skims_scan _ _ _ _ _ _
     (skims_after _ _ 1 _ _ _ g.I.Input.wide (omega arith) c.lookahead.ensures true (run_of g.C.Class.member) _
-    (skims_whole _ (goes g.C.Class.member Free) _ _ (g.I.Input.sound c.lookahead.new.self) _ c.run_skipped.ensures))
+    (skims_whole _ (goes g.C.Class.member Free) _ _ (g.I.Input.sound c.lookahead.new.self) _ c.skip_run.ensures))

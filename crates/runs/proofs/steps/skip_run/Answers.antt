@@ -1,5 +1,5 @@
 use Rattle.std.proofs.Common.{sym, ◌∙◌, arith}
-use Rattle.runs.proofs.Running.{some_of, none_of, sees_more, run_none, run_more, run-ended, run_counted}
+use Rattle.runs.proofs.Running.{some_of, none_of, sees_more, run_none, run_more, run_ended, run_counted}
 use Rattle.runs.proofs.steps.skip_run.Goals as goal
 
 pub loop-taken-preserved : goal.loop-taken-preserved
@@ -9,4 +9,4 @@ loop-taken-preserved g c =
 
 pub returns-else-is_some : goal.returns-else-is_some
 returns-else-is_some g c =
-    run-ended _ _ _ _ _ _ _ _ c.loop-taken.invariant c.next_of_run.ensures (none_of c.next_of_run.result (sym c.is_some.ensures ∙ c.if-is_some.false)) (omega arith)
+    run_ended _ _ _ _ _ _ _ _ c.loop-taken.invariant c.next_of_run.ensures (none_of c.next_of_run.result (sym c.is_some.ensures ∙ c.if-is_some.false)) (omega arith)

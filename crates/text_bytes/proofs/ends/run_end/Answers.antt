@@ -1,6 +1,6 @@
 use Rattle.std.proofs.Common.{arith}
 use Rattle.text_bytes.proofs.Places.{moved}
-use Rattle.text_bytes.proofs.Running.{running_none, running_more, running-stops, running-out}
+use Rattle.text_bytes.proofs.Running.{running_none, running_more, running_stops, running_out}
 use Rattle.text_bytes.proofs.ends.run_end.Goals as goal
 
 pub loop-c-init : goal.loop-c-init
@@ -29,7 +29,7 @@ returns-then-not-goes_on g c =
       ends = λ p.
           let r = c.loop-c.invariant.2 p in
           let s = c.in-Some.ensures.first r.placed in
-          running-stops _ _ _ _ _ r p _ _ _ s (c.goes_on.ensures (moved _ _ _ p s.boundary)) c.if-not-goes_on.true;
+          running_stops _ _ _ _ _ r p _ _ _ s (c.goes_on.ensures (moved _ _ _ p s.boundary)) c.if-not-goes_on.true;
       onward = omega arith;
       inside = c.loop-c.invariant.1;
     }
@@ -37,7 +37,7 @@ returns-then-not-goes_on g c =
 pub returns-in_default : goal.returns-in_default
 returns-in_default g c =
     record {
-      ends = λ p. let r = c.loop-c.invariant.2 p in running-out _ _ _ _ _ r p (c.in_default.ensures.first r.placed);
+      ends = λ p. let r = c.loop-c.invariant.2 p in running_out _ _ _ _ _ r p (c.in_default.ensures.first r.placed);
       onward = omega arith;
       inside = c.loop-c.invariant.1;
     }

@@ -1,5 +1,5 @@
 use Rattle.std.proofs.Common.{arith}
-use Rattle.text_bytes.proofs.Fitting.{fitted_none, fitted-more, fitted-stops, fitted-out}
+use Rattle.text_bytes.proofs.Fitting.{fitted_none, fitted_more, fitted_stops, fitted_out}
 use Rattle.text_bytes.proofs.parts.fitting_end.Goals as goal
 
 pub loop-next-init : goal.loop-next-init
@@ -16,7 +16,7 @@ loop-next-preserved c =
     let h = c.in-Some.ensures.onward in (
       omega arith,
       omega arith,
-      λ p. let f = c.loop-next.invariant.2 p in fitted-more _ _ _ _ _ f _ _ (c.in-Some.ensures.first f.placed) (omega arith),
+      λ p. let f = c.loop-next.invariant.2 p in fitted_more _ _ _ _ _ f _ _ (c.in-Some.ensures.first f.placed) (omega arith),
     )
 
 pub returns-then-next-limit : goal.returns-then-next-limit
@@ -24,7 +24,7 @@ returns-then-next-limit c =
     record {
       ends = λ p.
           let f = c.loop-next.invariant.2 p in
-          fitted-stops _ _ _ _ _ f p _ _ (c.in-Some.ensures.first f.placed) c.loop-next.invariant.1 c.if-next-limit.true;
+          fitted_stops _ _ _ _ _ f p _ _ (c.in-Some.ensures.first f.placed) c.loop-next.invariant.1 c.if-next-limit.true;
       onward = omega arith;
       low = c.loop-next.invariant.1;
     }
@@ -32,7 +32,7 @@ returns-then-next-limit c =
 pub returns-in_default : goal.returns-in_default
 returns-in_default c =
     record {
-      ends = λ p. let f = c.loop-next.invariant.2 p in fitted-out _ _ _ _ _ f p (c.in_default.ensures.first f.placed);
+      ends = λ p. let f = c.loop-next.invariant.2 p in fitted_out _ _ _ _ _ f p (c.in_default.ensures.first f.placed);
       onward = omega arith;
       low = c.loop-next.invariant.1;
     }

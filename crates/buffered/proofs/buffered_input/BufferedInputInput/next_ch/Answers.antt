@@ -1,6 +1,6 @@
 use Rattle.std.proofs.Common.{refl, ◌∙◌}
 use Rattle.buffered.specs.Buffered.{ring_sound}
-use Rattle.buffered.proofs.Taking.{keeps-next, first-held}
+use Rattle.buffered.proofs.Taking.{keeps_next, first_held}
 use Rattle.buffered.proofs.buffered_input.BufferedInputInput.next_ch.Goals as goal
 
 pub returns : goal.returns
@@ -12,10 +12,10 @@ returns g c =
     record {
       tells =
           record {
-            keeps = keeps-next g.S.Source.ahead g.S.Source.kept g.S.Source.ended x.store y one x.window waits;
+            keeps = keeps_next g.S.Source.ahead g.S.Source.kept g.S.Source.ended x.store y one x.window waits;
             told = refl;
             ahead = one.same;
-            next = c.first.ensures ∙ first-held g.S.Source.ahead g.S.Source.kept g.S.Source.ended x.store y one;
+            next = c.first.ensures ∙ first_held g.S.Source.ahead g.S.Source.kept g.S.Source.ended x.store y one;
           };
       feeds = c.fill.ensures.feeds;
     }

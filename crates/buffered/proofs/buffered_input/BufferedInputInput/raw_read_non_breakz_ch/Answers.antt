@@ -1,7 +1,7 @@
 use Rattle.std.proofs.Common.{sym, refl, ◌∙◌}
 use Rattle.buffered.specs.Store.{all_of}
 use Rattle.buffered.specs.Buffered.{ring_sound}
-use Rattle.buffered.proofs.Taking.{keeps-next, first-held, line_break}
+use Rattle.buffered.proofs.Taking.{keeps_next, first_held, line_break}
 use Rattle.buffered.proofs.buffered_input.BufferedInputInput.raw_read_non_breakz_ch.Goals as goal
 
 pub returns-in_default : goal.returns-in_default
@@ -10,11 +10,11 @@ returns-in_default g c =
     let y = c.fill.new.self in
     let one = c.fill.ensures.fills in
     let waits = (ring_sound g.S.Source.ahead g.S.Source.characters g.S.Source.short x).waits in
-    let first = c.first.ensures ∙ first-held g.S.Source.ahead g.S.Source.kept g.S.Source.ended x.store y one in
+    let first = c.first.ensures ∙ first_held g.S.Source.ahead g.S.Source.kept g.S.Source.ended x.store y one in
     record {
       reads =
           record {
-            keeps = keeps-next g.S.Source.ahead g.S.Source.kept g.S.Source.ended x.store y one x.window waits;
+            keeps = keeps_next g.S.Source.ahead g.S.Source.kept g.S.Source.ended x.store y one x.window waits;
             told = refl;
             ahead = one.same;
             character =

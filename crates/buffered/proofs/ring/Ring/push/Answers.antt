@@ -6,7 +6,11 @@ use Rattle.buffered.proofs.ring.Ring.push.Goals as goal
 pub invariant_of-self : goal.invariant_of-self
 invariant_of-self c =
     let s : scalar c.args.c ≡ true = search rules in
-    (scalars_set c.args.self.now.places _ c.args.c s c.args.self.now.characters, (c.args.self.now.inside, (omega (arith, c.requires), tt)))
+    record {
+      characters = scalars_set c.args.self.now.places _ c.args.c s c.args.self.now.characters;
+      inside = c.args.self.now.inside;
+      room = omega (arith, c.requires);
+    }
 
 pub returns : goal.returns
 returns c =

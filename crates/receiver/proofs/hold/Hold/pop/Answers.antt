@@ -7,7 +7,7 @@ pub invariant_of-self : goal.invariant_of-self
 invariant_of-self c =
     let h = c.args.self.now in
     let e = c.rotate_left.ensures.after in
-    (c.rotate_left.ensures.len ∙ h.row, (ap scalars e ∙ scalars_shifted h.places h.characters, (omega (arith, h.room), tt)))
+    record { row = c.rotate_left.ensures.len ∙ h.row; characters = ap scalars e ∙ scalars_shifted h.places h.characters; room = omega (arith, h.room) }
 
 pub returns : goal.returns
 returns c =

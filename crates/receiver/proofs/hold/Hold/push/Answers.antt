@@ -8,7 +8,7 @@ pub invariant_of-self : goal.invariant_of-self
 invariant_of-self c =
     let h = c.args.self.now in
     let s : scalar c.args.c ≡ true = search rules in
-    (length-set h.places _ _ ∙ h.row, (scalars_set h.places _ c.args.c s h.characters, (omega (arith, c.requires), tt)))
+    record { row = length-set h.places _ _ ∙ h.row; characters = scalars_set h.places _ c.args.c s h.characters; room = omega (arith, c.requires) }
 
 pub returns : goal.returns
 returns c =

@@ -24,7 +24,7 @@ overflow_add-self-in-Char c =
 pub invariant_of-self : goal.invariant_of-self
 invariant_of-self c =
     let p = inside c in
-    (c.args.self.now.short, (p.1, (omega (arith, c.args.self.now.counted), tt)))
+    record { short = c.args.self.now.short; inside = p.1; counted = omega (arith, c.args.self.now.counted) }
 
 pub returns-in-Char : goal.returns-in-Char
 returns-in-Char c =

@@ -5,13 +5,13 @@ use Rattle.source.proofs.text.TextChars.load.Goals as goal
 
 pub returns-in_err-check_text : goal.returns-in_err-check_text
 returns-in_err-check_text c =
-    let p = err_from_is_err_and c.from-residual.result c.from-residual.ensures.1 in
+    let p = err_from_is_err_and c.from_residual.result c.from_residual.ensures.1 in
     rw (p.1, p.2) (record { checked = c.in_err-check_text.ensures.checked; loads = refl })
 
 pub invariant_of-self : goal.invariant_of-self
 invariant_of-self c =
     let p = pass c.args.bytes.now c.in_ok-check_text.ensures.checked in
-    (p.short, (p.formed, (p.characters, (p.start, tt))))
+    record { short = p.short; formed = p.formed; characters = p.characters; boundary = p.start }
 
 pub returns : goal.returns
 returns c =

@@ -16,7 +16,12 @@ overflow_add-self c =
 pub invariant_of-self : goal.invariant_of-self
 invariant_of-self c =
     let s = c.args.self.now in
-    (s.short, (s.formed, (s.characters, (step_boundary s.text.now s.place _ _ s.boundary.0 (rest_is_text s) (c.in-Char.ensures.decodes.character _ _ refl), tt))))
+    record {
+      short = s.short;
+      formed = s.formed;
+      characters = s.characters;
+      boundary = step_boundary s.text.now s.place _ _ s.boundary.0 (rest_is_text s) (c.in-Char.ensures.decodes.character _ _ refl);
+    }
 
 pub returns-in-Char : goal.returns-in-Char
 returns-in-Char c =

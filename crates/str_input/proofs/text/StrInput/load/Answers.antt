@@ -5,7 +5,7 @@ use Rattle.str_input.proofs.text.StrInput.load.Goals as goal
 
 pub returns-in_err-check_text : goal.returns-in_err-check_text
 returns-in_err-check_text c =
-    let p = err_from_is_err_and c.from-residual.result c.from-residual.ensures.1 in
+    let p = err_from_is_err_and c.from_residual.result c.from_residual.ensures.1 in
     rw (p.1, p.2) (record { checked = c.in_err-check_text.ensures.checked; loads = refl })
 
 pub at_start-requires : goal.at_start-requires
