@@ -10,6 +10,7 @@ use listing::{cut_line, drawn_line};
 use program::CONE_SIX;
 use source::bytes::ByteChars;
 use std::alloc::AllocError;
+use std::process::ExitCode;
 use std::{env, fs, io};
 use str_input::text::StrInput;
 
@@ -159,11 +160,18 @@ fn report(rt: &HostRuntime, name: &str, res: Result<(), Stop>) -> Result<(), Sto
     res
 }
 
-fn main(rt: HostRuntime) -> Result<(), Stop> {
-    let mut args = env::args(&rt)?;
+fn run(rt: &HostRuntime) -> Result<(), Stop> {
+    let mut args = env::args(rt)?;
     let _program = args.next();
     match args.next() {
-        None => report(&rt, BUILT_IN, show(&rt, BUILT_IN, CONE_SIX.as_bytes())),
-        Some(path) => report(&rt, path.as_str(), show_file(&rt, path.as_str())),
+        None => report(rt, BUILT_IN, show(rt, BUILT_IN, CONE_SIX.as_bytes())),
+        Some(path) => report(rt, path.as_str(), show_file(rt, path.as_str())),
+    }
+}
+
+fn main(rt: HostRuntime) -> ExitCode {
+    match run(&rt) {
+        Ok(()) => ExitCode::SUCCESS,
+        Err(_) => ExitCode::FAILURE,
     }
 }

@@ -17,21 +17,20 @@ fn closing_number(closing: Closing) -> u8 {
 }
 
 // A marker at the end, and one that goes on.
-fn finds_marker<I: Input>(input: &mut I, start: bool) -> Result<(), Fail> {
+fn finds_marker<I: Input>(input: &mut I, start: bool) -> bool {
     input.lookahead(4);
-    assert_eq!(calls::next_is_document_start(input), Ok(start));
-    assert_eq!(calls::next_is_document_indicator(input), Ok(start));
-    assert_eq!(calls::next_is_document_end(input), Ok(false));
-    Ok(())
+    calls::next_is_document_start(input) == Ok(start)
+        && calls::next_is_document_indicator(input) == Ok(start)
+        && calls::next_is_document_end(input) == Ok(false)
 }
 
 #[test]
 fn markers(rt: HostRuntime) -> Result<(), Fail> {
     let mut slice = StrInput::new();
     slice.load(b"---")?;
-    finds_marker(&mut slice, true)?;
+    assert!(rt; finds_marker(&mut slice, true));
     slice.load(b"---a")?;
-    finds_marker(&mut slice, false)?;
+    assert!(rt; finds_marker(&mut slice, false));
     let mut source = Codes::new();
     source.load(&[0x2D, 0x2D, 0x2D], CodesEnding::Clean)?;
     let mut ring = FallibleBufferedInput::new(source);
@@ -39,11 +38,12 @@ fn markers(rt: HostRuntime) -> Result<(), Fail> {
         calls::next_is_document_start(&ring),
         Err(Refusal::NarrowWindow)
     );
-    finds_marker(&mut ring, true)?;
+    assert!(rt; finds_marker(&mut ring, true));
     let mut other = Codes::new();
     other.load(&[0x2D, 0x2D, 0x2D, 0x61], CodesEnding::Clean)?;
     let mut ring = FallibleBufferedInput::new(other);
-    finds_marker(&mut ring, false)
+    assert!(rt; finds_marker(&mut ring, false));
+    Ok(())
 }
 
 // NUL and then z: not the end.

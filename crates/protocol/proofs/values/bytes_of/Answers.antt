@@ -8,4 +8,4 @@ returns-in-None c bytes s = c.in-None.ensures (get_or bytes c.loop-k.k 0) (s.eac
 pub loop-k-preserved : goal.loop-k-preserved
 loop-k-preserved c =
     spelled_more c.args.word.now (vec_items c.loop-k.bytes) (vec_items c.push.new.self) c.loop-k.k c.in-Some.byte
-    c.loop-k.invariant.0 c.in_ok-push.ensures.items c.in-Some.ensures c.loop-k.invariant.1
+    c.loop-k.invariant.0 c.in_ok-push-in-Some.ensures.items c.in-Some.ensures c.loop-k.invariant.1
