@@ -1,9 +1,8 @@
 -- A fault is given once. Assumes nothing.
-use Rattle.std.proofs.Common.{◌≡◌, Bool, true, false, cond, not, ◌&&◌, ◌||◌, is_some, Some, None, Option, sym, refl, ap, ◌∙◌}
+use Rattle.std.proofs.Common.{◌≡◌, Bool, true, false, cond, not, ◌&&◌, ◌||◌, is_some, None, Option, sym, refl, ap, ◌∙◌}
 use Rattle.error.specs.Numbers.{fault_of}
 use Rattle.error.specs.declared.Fault.{Fault}
-use Rattle.error.specs.declared.Ending.{Ending}
-use Rattle.input.specs.View.{View, Sound, Keeps}
+use Rattle.input.specs.View.{View, Sound}
 use Rattle.input.specs.Calls.{Asks}
 use Rattle.input.proofs.Keeping.{still}
 use Rattle.buffered.specs.Fallible.{ending_in}

@@ -1,7 +1,7 @@
 -- A ring as far as it has been filled. Assumes nothing.
-use Rattle.std.proofs.Common.{◌≡◌, ℕ, ◌+◌, ◌<◌, ◌≤◌, Bool, true, false, cond, ◌||◌, ltb, List, [], ◌∷◌, ◌++◌, length, sym, refl, ap, ◌∙◌, append_assoc, arith, length-append}
+use Rattle.std.proofs.Common.{◌≡◌, ℕ, ◌<◌, ◌≤◌, Bool, true, false, cond, ◌||◌, ltb, List, [], ◌∷◌, ◌++◌, length, sym, refl, ap, ◌∙◌, append_assoc, arith, length-append}
 use Rattle.error.specs.declared.Ending.{Ending}
-use Rattle.input.proofs.Keeping.{never, below, is_below, not_below}
+use Rattle.input.proofs.Keeping.{never, is_below, not_below}
 use Rattle.buffered.specs.declared.ring.Ring.{Ring}
 use Rattle.buffered.specs.declared.store.Store.{Store}
 use Rattle.buffered.specs.Store.{queue, to_come, all_of, Fills, Feeds}

@@ -1,15 +1,14 @@
 -- What is drawn, taken and drawn again. Assumes nothing.
-use Rattle.std.proofs.Common.{◌≡◌, ℕ, suc, ◌+◌, ◌-◌, ◌<◌, ◌≤◌, min, max, Bool, true, false, cond, ◌||◌, eqb, ltb, List, [], ◌∷◌, ◌++◌, length, drop, Some, None, Option, sym, refl, ap, ◌∙◌, subst, ap₂, arith, length-append}
+use Rattle.std.proofs.Common.{◌≡◌, ℕ, ◌<◌, Bool, true, false, cond, ◌||◌, eqb, ltb, List, [], ◌∷◌, ◌++◌, length, Some, None, Option, sym, refl, ap, ◌∙◌, ap₂, arith}
 use lib.Dec.{eqb-suc-zero}
 use Rattle.error.specs.declared.Ending.{Ending}
 use Rattle.error.specs.declared.Ending.TheVariants.{Clean}
 use Rattle.char_traits.specs.Chars.{breakz}
 use Rattle.input.specs.View.{View, Keeps}
 use Rattle.input.specs.Calls.{none_left, first_of, first_in_line}
-use Rattle.input.proofs.Keeping.{never, below, is_below, not_below, one_is_none}
+use Rattle.input.proofs.Keeping.{never, below, one_is_none}
 use Rattle.buffered.specs.declared.ring.Ring.{Ring}
 use Rattle.buffered.specs.declared.store.Store.{Store}
-use Rattle.buffered.specs.Queue.{Pops}
 use Rattle.buffered.specs.Store.{queue, to_come, all_of, Fills, Feeds}
 
 abbrev pub view_of : {S : Type 0} → (S → List ℕ) → Store S → ℕ → View

@@ -1,9 +1,8 @@
 -- A source behind a ring, as an input. Assumes nothing.
-use Rattle.std.specs.Prelude.{◌≡◌, ℕ, ◌<◌, ◌≤◌, Bool, true, false, cond, ◌&&◌, List, [], ◌∷◌, ◌++◌, length, nat_lt, slice_index, refl}
+use Rattle.std.specs.Prelude.{◌≡◌, ℕ, ◌<◌, ◌≤◌, Bool, true, false, cond, ◌&&◌, List, [], length, nat_lt, slice_index, refl}
 use Rattle.std.proofs.Common.{ap, arith, length-append}
 use Rattle.std.proofs.Math.Utf8.{scalars, encodes}
 use Rattle.error.specs.Limit.{text_limit}
-use Rattle.error.specs.declared.Ending.{Ending}
 use Rattle.error.specs.declared.Ending.TheVariants.{Clean}
 use Rattle.input.specs.View.{View, Sound}
 use Rattle.input.specs.Calls.{none_left}

@@ -5,7 +5,6 @@ use Rattle.error.specs.Limit.{text_limit}
 use Rattle.error.specs.declared.Ending.{Ending}
 use Rattle.input.specs.View.{View, Sound}
 use Rattle.buffered.specs.declared.fallible.FallibleBufferedInput.{FallibleBufferedInput}
-use Rattle.buffered.specs.Store.{all_of}
 use Rattle.buffered.specs.Buffered.{seen, ring_shows, ring_sound, ring_faithful}
 use Rattle.buffered.specs.Chars.{chars_ahead, kept_by, chars_characters, chars_short}
 

@@ -1,7 +1,7 @@
 -- A queue in sixteen places. Assumes nothing.
-use Rattle.std.specs.Prelude.{◌≡◌, ℕ, zero, suc, ◌+◌, ◌-◌, ◌*◌, ◌%◌, ◌<◌, ◌≤◌, Bool, true, false, ◌&&◌, ◌≢◌, List, [], ◌∷◌, ◌++◌, length, slice_index, slice_set, refl}
-use Rattle.std.proofs.Common.{sym, ap, subst, ◌∙◌, arith, add-one, not-suc-le-zero, le_of_suc-le-suc, mod-lt, length-append, get_or-set_same, get_or-set_other}
-use Rattle.std.proofs.Math.Utf8.{scalar, scalars, encode, encodes}
+use Rattle.std.specs.Prelude.{◌≡◌, ℕ, zero, suc, ◌+◌, ◌-◌, ◌%◌, ◌<◌, Bool, true, false, ◌&&◌, ◌≢◌, List, [], ◌∷◌, ◌++◌, length, slice_index, slice_set, refl}
+use Rattle.std.proofs.Common.{sym, ap, subst, ◌∙◌, arith, add-one, not-suc-le-zero, le_of_suc-le-suc, get_or-set_same, get_or-set_other}
+use Rattle.std.proofs.Math.Utf8.{scalar, scalars}
 use Rattle.buffered.specs.Queue.{held}
 
 pub held_length : (p : List ℕ) (h n : ℕ) → length (held p h n) ≡ n

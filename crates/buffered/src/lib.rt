@@ -1,4 +1,5 @@
 //! A source behind a ring of sixteen places.
+#![tactic(auto)]
 
 pub mod borrowed;
 pub mod buffered;

@@ -1,5 +1,5 @@
 -- How the classes lie to each other. Assumes nothing.
-use Rattle.std.proofs.Common.{◌<◌, ◌≤◌, Bool, true, false, cond, not, ◌&&◌, ◌||◌, eqb, leb, arith}
+use Rattle.std.proofs.Common.{arith}
 use Rattle.std.proofs.lemmas.Bool.Decides.{nat_tests}
 use Rattle.char_traits.specs.Ties.{Ties}
 

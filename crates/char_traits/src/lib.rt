@@ -1,4 +1,5 @@
 //! Functions that tell whether a character belongs to a set of characters.
+#![tactic(auto)]
 
 ghost use Rattle.std.specs.Prelude.{◌≡◌, true, false, MatchOption};
 ghost use Rattle.char_traits.specs.Chars.{z, line_break, breakz, blank, blank_or_breakz, digit, alpha, word, hex, hex_value, flow, bom, printable, yaml_non_break, yaml_non_space, anchor, uri, tag};

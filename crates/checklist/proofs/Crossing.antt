@@ -1,8 +1,7 @@
 -- Runs within a line pass no line end. Assumes nothing.
-use Rattle.std.proofs.Common.{◌≡◌, ℕ, suc, ◌+◌, ◌<◌, ◌≤◌, Bool, true, false, cond, not, ◌&&◌, List, [], ◌∷◌, ◌++◌, length, get_or, drop, Some, None, Option, sym, refl, ap, ◌∙◌, arith, length-drop}
+use Rattle.std.proofs.Common.{◌≡◌, ℕ, suc, ◌+◌, ◌≤◌, Bool, true, false, cond, not, ◌&&◌, List, [], ◌∷◌, ◌++◌, length, get_or, drop, Some, None, sym, refl, ap, ◌∙◌, arith, length-drop}
 use Rattle.std.proofs.lemmas.Bool.Decides.{nat_tests}
 use Rattle.char_traits.specs.Chars.{breakz, printable, not_breakz, printable_not_breakz, plain_safe}
-use Rattle.input.specs.View.{View}
 use Rattle.input.specs.Calls.{none_left, first_of}
 use Rattle.input.proofs.Keeping.{never}
 use Rattle.runs.specs.declared.SkipTabs.{SkipTabs}
@@ -10,7 +9,7 @@ use Rattle.runs.specs.declared.SkipTabs.TheVariants.{Yes, No}
 use Rattle.runs.specs.declared.Colon.TheVariants.{Free, Leads}
 use Rattle.runs.specs.Runs.{goes, run_by, run_of, separates, blanks_of, after_blanks, at_hash, comment_of, eol_run}
 use Rattle.runs.proofs.Fronts.{Front, run_front, eol_front}
-use Rattle.checklist.specs.Lines.{line_ends, WithinLine}
+use Rattle.checklist.specs.Lines.{line_ends}
 
 ends_append : (a b : List ℕ) → line_ends (a ++ b) ≡ line_ends a + line_ends b
 ends_append [] b = omega arith

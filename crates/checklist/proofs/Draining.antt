@@ -1,5 +1,5 @@
 -- One character more is taken. Assumes nothing.
-use Rattle.std.proofs.Common.{◌≡◌, ℕ, List, [], ◌∷◌, ◌++◌, drop, Some, sym, refl, ap, ◌∙◌, append_assoc, arith}
+use Rattle.std.proofs.Common.{◌≡◌, ℕ, List, [], ◌∷◌, ◌++◌, drop, Some, ap, ◌∙◌, append_assoc, arith}
 use Rattle.input.specs.Calls.{first_of}
 
 first_is : (a : List ℕ) (c : ℕ) → Some c ≡ first_of a → c ∷ drop 1 a ≡ a

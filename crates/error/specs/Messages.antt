@@ -1,5 +1,5 @@
 -- What is printed of a refusal: its words, its place if it has one, and its number. Assumes nothing.
-use Rattle.std.specs.Prelude.{ℕ, List, [], ◌∷◌, ◌++◌, codes, decimal}
+use Rattle.std.specs.Prelude.{ℕ, List, [], ◌++◌, codes, decimal}
 use Rattle.error.specs.declared.FaultKind.{FaultKind}
 use Rattle.error.specs.declared.FaultKind.TheVariants.{InputIo, InputDecoding}
 use Rattle.error.specs.declared.Refusal.{Refusal}

@@ -1,4 +1,5 @@
 //! Why a reading stops, and why the reader says no.
+#![tactic(auto)]
 
 ghost use Rattle.std.specs.Prelude.{◌≡◌, Some, nat_lt};
 ghost use Rattle.std.specs.Option.{option_to_list};

@@ -1,23 +1,18 @@
 -- The worked examples are computed. Assumes nothing.
-use Rattle.std.proofs.Common.{◌≡◌, ℕ, ◌+◌, ◌-◌, ◌<◌, ◌≤◌, Bool, true, false, cond, not, ◌&&◌, ◌||◌, ltb, List, [], ◌∷◌, ◌++◌, length, get_or, take, drop, is_some, Some, None, codes, Option, sym, refl, ap, ◌∙◌, subst, arith}
+use Rattle.std.proofs.Common.{◌≡◌, ℕ, ◌+◌, ◌-◌, ◌<◌, Bool, true, false, cond, not, ◌&&◌, ◌||◌, ltb, List, [], ◌∷◌, ◌++◌, length, get_or, take, drop, is_some, Some, None, codes, refl, ap, ◌∙◌, arith}
 use lib.Utf8.{encode, encodes}
 use Rattle.std.proofs.lemmas.Str.{encode_ascii, length-encode}
 use Rattle.error.specs.Numbers.{fault_of}
-use Rattle.error.specs.declared.Fault.{Fault}
-use Rattle.error.specs.declared.Ending.{Ending}
 use Rattle.error.specs.declared.Ending.TheVariants.{Faulty}
 use Rattle.char_traits.specs.Chars.{yaml_non_space}
 use Rattle.utf8.specs.Room.{laid}
-use Rattle.input.specs.View.{View}
-use Rattle.input.specs.Tests.{flag, start_marker, marker_in, IsMarker, narrow, marked}
-use Rattle.runs.specs.declared.Fetched.{Fetched}
-use Rattle.runs.specs.declared.Colon.{Colon}
+use Rattle.input.specs.Tests.{flag, start_marker, marker_in, narrow, marked}
 use Rattle.runs.specs.declared.SkipTabs.{SkipTabs}
 use Rattle.runs.specs.declared.SkipTabs.TheVariants.{Yes, No}
 use Rattle.runs.specs.Runs.{run_of, plain_run, chunk_run, colon_at, eol_run, blanks_of, unseparated}
 use Rattle.runs.specs.Rooms.{fitting, part, refused}
 use Rattle.runs.proofs.Laying.{fit_one, fit_none}
-use Rattle.runs.specs.Scans.{flags_of, Fetches}
+use Rattle.runs.specs.Scans.{flags_of}
 use Rattle.examples.specs.Worked.{Worked, hot_line, EolGives, StartIs, PlainIs, ChunkIs, HalfFetched, pulled, ToldOnce}
 
 eol : (tabs : SkipTabs) (ahead : List ℕ) (count : ℕ) (answer : ℕ × List ℕ) → length (eol_run tabs ahead) ≡ count

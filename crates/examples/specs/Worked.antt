@@ -1,6 +1,6 @@
 -- The ten worked examples, each of every kind of input with these characters ahead. Assumes nothing.
 use Rattle.std.specs.Prelude.{◌≡◌, ℕ, ◌≤◌, Bool, true, false, List, [], ◌∷◌, ◌++◌, drop, Some, None, codes, Option, Result, slice_index}
-use Rattle.error.specs.Numbers.{fault_number, outcome}
+use Rattle.error.specs.Numbers.{outcome}
 use Rattle.error.specs.declared.Fault.{Fault}
 use Rattle.error.specs.declared.FaultKind.TheVariants.{InputIo}
 use Rattle.error.specs.declared.Ending.TheVariants.{Faulty}

@@ -1,4 +1,5 @@
 //! The worked examples of the rules, proved together from the definitions that the calls promise.
+#![tactic(auto)]
 
 ghost use Rattle.examples.specs.Worked.{Worked};
 

@@ -1,4 +1,5 @@
 //! Reads a firing program by card and by cable, prints it line by line, and runs the technician's checklist.
+#![tactic(auto)]
 
 mod program;
 

@@ -1,7 +1,7 @@
 -- Numbers that were found to be characters are those that are compared. Assumes nothing.
-use Rattle.std.proofs.Common.{◌≡◌, ℕ, Bool, true, false, ◌&&◌, List, [], ◌∷◌, get_or, Ok, Err, sym, refl, ap, ◌∙◌, subst, arith}
+use Rattle.std.proofs.Common.{◌≡◌, ℕ, Bool, true, false, ◌&&◌, List, [], ◌∷◌, get_or, Ok, refl, ap, subst, arith}
 use lib.Utf8.{scalar, scalars}
-use Rattle.input.specs.Tests.{Numbered, none, some, Characters, Matches, ComparesAll, all}
+use Rattle.input.specs.Tests.{none, some, Characters, Matches, ComparesAll, all}
 
 -- the numbers of a list of characters
 pub data Are : List ℕ → List ℕ → Type 0 where

@@ -2,7 +2,7 @@
 use Rattle.std.proofs.Common.{◌≡◌, ℕ, ◌+◌, ◌-◌, ◌<◌, ◌≤◌, Bool, true, false, ltb, List, [], ◌∷◌, length, drop, is_some, Option, sym, refl, ap, ◌∙◌, subst, arith, length-drop, drop_of_length-le, drop-drop}
 use Rattle.input.specs.View.{View, Sound, Keeps}
 use Rattle.input.specs.Calls.{none_left, first_of, Takes, Skips}
-use Rattle.input.proofs.Keeping.{never, still, both, below, is_below, not_below}
+use Rattle.input.proofs.Keeping.{never, still, both, is_below, not_below}
 
 pub record Skipping (prompt : Bool) (n left : ℕ) (v w : View) : Type 0 where
   pub keeps : Keeps prompt false 0 v w

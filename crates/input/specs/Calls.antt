@@ -1,5 +1,5 @@
 -- What each call of an input means: the input before it, v, its answer, and the input after it, w. Assumes nothing.
-use Rattle.std.specs.Prelude.{◌≡◌, ℕ, ◌<◌, ◌≤◌, min, Bool, true, false, cond, not, ◌&&◌, ◌||◌, List, [], ◌∷◌, length, drop, is_some, Some, None, Option, nat_lt, slice_index}
+use Rattle.std.specs.Prelude.{◌≡◌, ℕ, ◌≤◌, min, Bool, true, false, cond, not, ◌&&◌, ◌||◌, List, [], ◌∷◌, length, drop, is_some, Some, None, Option, nat_lt, slice_index}
 use Rattle.error.specs.Numbers.{fault_number, fault_of}
 use Rattle.error.specs.declared.Fault.{Fault}
 use Rattle.error.specs.declared.Ending.{Ending}

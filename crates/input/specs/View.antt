@@ -1,5 +1,5 @@
 -- What an input means to whoever reads it. Assumes nothing.
-use Rattle.std.specs.Prelude.{◌≡◌, ℕ, ◌+◌, ◌<◌, ◌≤◌, min, max, Bool, true, false, ◌||◌, List, [], ◌∷◌, length, nat_lt}
+use Rattle.std.specs.Prelude.{◌≡◌, ℕ, ◌+◌, ◌<◌, ◌≤◌, min, max, Bool, true, false, ◌||◌, List, length, nat_lt}
 use Rattle.std.proofs.Math.Utf8.{encodes, scalars}
 use Rattle.error.specs.Limit.{text_limit}
 use Rattle.error.specs.declared.Ending.{Ending}

@@ -1,4 +1,5 @@
 //! What a scanner reads from.
+#![tactic(auto)]
 
 ghost use Rattle.std.specs.Prelude.{◌≡◌, ℕ, ◌<◌, ◌≤◌, Bool, true, List, if◌then◌else◌, None, slice_index};
 ghost use Rattle.error.specs.Numbers.{fault_of, outcome};

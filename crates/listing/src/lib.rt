@@ -1,4 +1,5 @@
 //! A program as lines of characters.
+#![tactic(auto)]
 
 ghost use Rattle.std.specs.Prelude.{◌≡◌, map, IfOk, string_bytes};
 ghost use Rattle.std.proofs.Math.Utf8.{encodes};

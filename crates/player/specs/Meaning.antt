@@ -1,5 +1,5 @@
 -- What each call and its answer say of the input before it, v, and after it, w. Assumes nothing.
-use Rattle.std.specs.Prelude.{◌≡◌, ℕ, ◌-◌, ◌<◌, ◌≤◌, Bool, true, false, cond, ◌||◌, List, [], ◌∷◌, ◌++◌, length, Some, None, Ok, Err, codes, Option, Result, ◌==◌, slice_index, slice_range}
+use Rattle.std.specs.Prelude.{◌≡◌, ℕ, ◌<◌, ◌≤◌, Bool, true, false, ◌||◌, List, [], ◌∷◌, ◌++◌, length, Some, None, Ok, Err, codes, Option, Result, ◌==◌, slice_index, slice_range}
 use Rattle.error.specs.Numbers.{outcome}
 use Rattle.error.specs.declared.Fault.{Fault}
 use Rattle.error.specs.declared.Refusal.{Refusal}

@@ -1,4 +1,5 @@
 //! Commands of the protocol, performed on an input of any kind.
+#![tactic(auto)]
 
 mod classes;
 pub mod desk;

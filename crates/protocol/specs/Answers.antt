@@ -1,5 +1,5 @@
 -- What is printed of each answer. Assumes nothing.
-use Rattle.std.specs.Prelude.{ℕ, ◌/◌, ◌%◌, Bool, true, false, cond, List, [], ◌∷◌, ◌++◌, Some, None, codes, decimal, Option, ◌==◌, nat_lt}
+use Rattle.std.specs.Prelude.{ℕ, ◌/◌, ◌%◌, Bool, false, cond, List, [], ◌∷◌, ◌++◌, Some, None, codes, decimal, Option, ◌==◌, nat_lt}
 use Rattle.std.specs.Char.{digit_char}
 use Rattle.error.specs.Numbers.{number}
 use Rattle.error.specs.declared.Fault.{Fault}

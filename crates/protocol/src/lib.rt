@@ -1,4 +1,5 @@
 //! Commands and answers as lines of text.
+#![tactic(auto)]
 
 pub mod answer;
 pub mod command;

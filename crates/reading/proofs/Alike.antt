@@ -1,5 +1,5 @@
 -- Two readings of one list give the same answers. Assumes nothing.
-use Rattle.std.proofs.Common.{◌≡◌, ℕ, suc, ◌+◌, ◌<◌, ◌≤◌, min, max, Bool, true, false, cond, List, [], ◌∷◌, length, get_or, drop, Option, sym, refl, ap, ◌∙◌, subst, arith}
+use Rattle.std.proofs.Common.{◌≡◌, ℕ, suc, ◌≤◌, min, max, Bool, true, false, cond, List, [], ◌∷◌, length, get_or, drop, Option, sym, refl, ap, ◌∙◌, subst, arith}
 use mathlib.Core.List.{head-eq_of_cons-eq, tail-eq_of_cons-eq}
 use Rattle.error.specs.Numbers.{outcome}
 use Rattle.input.specs.View.{View, Sound}
@@ -11,7 +11,7 @@ use Rattle.reading.specs.declared.call.Call.TheVariants.{Lookahead, Added, LookC
 use Rattle.reading.specs.declared.call.Answer.{Answer}
 use Rattle.reading.specs.declared.call.Answer.TheVariants.{Nothing, Character, Next, Tested}
 use Rattle.reading.specs.Line.{Line, Means, Faithful, Performed, answered, next_values}
-use Rattle.reading.specs.Sorts.{Sort, sort_of, asks}
+use Rattle.reading.specs.Sorts.{sort_of, asks}
 use Rattle.reading.specs.Reading.{Ran, calls, answers, Listed, Same}
 use Rattle.reading.proofs.Facts.{Facts, facts}
 use Rattle.reading.proofs.Shown.{Upto, tests_same}

@@ -3,7 +3,7 @@ use Rattle.std.proofs.Common.{◌≡◌, ℕ, ◌<◌, ◌≤◌, min, max, Bool
 use Rattle.error.specs.Numbers.{fault_of}
 use Rattle.error.specs.declared.Fault.{Fault}
 use Rattle.error.specs.declared.Ending.{Ending}
-use Rattle.input.specs.View.{View, Sound, Keeps, New}
+use Rattle.input.specs.View.{View, Sound, New}
 use Rattle.input.specs.Calls.{closed, closing_of}
 use Rattle.input.proofs.Keeping.{never, below}
 use Rattle.reading.specs.declared.call.Call.{Call}

@@ -1,6 +1,6 @@
 -- Tests of inputs that show the same characters within their reach. Assumes nothing.
-use Rattle.std.proofs.Common.{◌≡◌, ℕ, suc, ◌<◌, ◌≤◌, Bool, true, false, cond, ◌&&◌, eqb, List, [], ◌∷◌, length, Some, None, Option, sym, refl, ap, ◌∙◌, ap₂, arith}
-use Rattle.char_traits.specs.Chars.{blank_or_breakz, flow}
+use Rattle.std.proofs.Common.{◌≡◌, ℕ, suc, ◌<◌, ◌≤◌, Bool, true, cond, ◌&&◌, eqb, List, [], ◌∷◌, length, Some, None, Option, sym, refl, ap, ◌∙◌, ap₂, arith}
+use Rattle.char_traits.specs.Chars.{blank_or_breakz}
 use Rattle.input.specs.declared.Marker.{Marker}
 use Rattle.input.specs.declared.Marker.TheVariants.{Start, End}
 use Rattle.input.specs.View.{View}

@@ -1,5 +1,5 @@
 -- A call of a reading as it went. Assumes nothing.
-use Rattle.std.specs.Prelude.{◌≡◌, ℕ, ◌<◌, Bool, true, false, ◌||◌, List, [], ◌∷◌, Some, None, Option, Result, slice_index}
+use Rattle.std.specs.Prelude.{◌≡◌, ℕ, ◌<◌, Bool, ◌||◌, List, [], ◌∷◌, Some, None, Option, Result, slice_index}
 use Rattle.error.specs.Numbers.{fault_number, outcome}
 use Rattle.error.specs.declared.Fault.{Fault}
 use Rattle.error.specs.declared.Refusal.{Refusal}

@@ -1,5 +1,5 @@
 -- The calls of a list, a line for each. Assumes nothing.
-use Rattle.std.specs.Prelude.{ℕ, ◌+◌, min, Bool, true, false, List, [], ◌∷◌}
+use Rattle.std.specs.Prelude.{ℕ, ◌+◌, min, Bool, true, false, [], ◌∷◌}
 use Rattle.input.specs.Tests.{without_nul}
 use Rattle.reading.specs.declared.call.Test.{Test}
 use Rattle.reading.specs.declared.call.Test.TheVariants.{Z, Class, CharIs, NthIs, TwoAre, ThreeAre, Marker as MarkerIs, PlainScalar}

@@ -1,5 +1,5 @@
 -- A stash as an input. Assumes nothing.
-use Rattle.std.specs.Prelude.{◌≡◌, ℕ, ◌<◌, ◌≤◌, true, false, List, length, is_some, Some, None, Option, slice_index, refl}
+use Rattle.std.specs.Prelude.{◌≡◌, ℕ, ◌<◌, ◌≤◌, true, List, length, is_some, Some, None, Option, slice_index, refl}
 use Rattle.std.proofs.Common.{arith, length-append}
 use Rattle.std.proofs.Math.Utf8.{scalars, encodes}
 use Rattle.error.specs.Limit.{text_limit}

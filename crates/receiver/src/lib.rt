@@ -1,4 +1,5 @@
 //! A receiver, made with public interfaces alone: packets with gaps as a failing source, and a stash before any failing source as an input.
+#![tactic(auto)]
 
 pub mod beside;
 mod draw;

@@ -4,7 +4,6 @@ use lib.Utf8.{encode, encodes}
 use Rattle.std.proofs.lemmas.List.{take_all}
 use Rattle.std.proofs.lemmas.Str.{length-le-encodes}
 use Rattle.error.specs.Limit.{text_limit, place_fits}
-use Rattle.error.specs.declared.Refusal.{Refusal}
 use Rattle.error.specs.declared.Refusal.TheVariants.{BeyondRoom}
 use Rattle.utf8.specs.Room.{laid}
 use Rattle.input.specs.View.{View, Sound, Keeps}
@@ -12,7 +11,7 @@ use Rattle.input.specs.Calls.{none_left, Looks}
 use Rattle.input.proofs.Keeping.{never, still, both, is_below, not_below, none_is}
 use Rattle.runs.specs.declared.Fetched.{Fetched}
 use Rattle.runs.specs.Runs.{run_by}
-use Rattle.runs.specs.Rooms.{fitting, beyond, part, fetch_refusal}
+use Rattle.runs.specs.Rooms.{fitting, beyond, part}
 use Rattle.runs.specs.Scans.{scan_asks, Skims, Fetches}
 use Rattle.runs.proofs.Laying.{laid_none}
 

@@ -11,7 +11,7 @@ use Rattle.input.specs.Calls.{none_left, Looks}
 use Rattle.input.proofs.Keeping.{is_below, not_below, still}
 use Rattle.runs.specs.declared.Fetched.{Fetched}
 use Rattle.runs.specs.declared.Colon.{Colon}
-use Rattle.runs.specs.declared.Colon.TheVariants.{Free, Stops, Leads}
+use Rattle.runs.specs.declared.Colon.TheVariants.{Stops, Leads}
 use Rattle.runs.specs.Runs.{goes, run_by, plain_run, chunk_run, colon_at}
 use Rattle.runs.specs.Rooms.{fitting, beyond, part}
 use Rattle.runs.specs.Scans.{Sees, scan_asks, chunk_asks, Skims, Fetches, SkipsChunk, FetchesChunk, StepsChunk, StepsFetch}

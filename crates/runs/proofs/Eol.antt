@@ -1,15 +1,15 @@
 -- Blanks, and a comment after them. Assumes nothing.
-use Rattle.std.proofs.Common.{◌≡◌, ℕ, ◌+◌, ◌<◌, ◌≤◌, Bool, true, false, cond, ◌&&◌, eqb, List, [], ◌∷◌, ◌++◌, length, get_or, drop, Ok, Err, sym, refl, ap, ◌∙◌, subst, append-nil, arith, length-append, length-drop, drop-drop}
-use Rattle.std.proofs.lemmas.Bool.{eq-eqb, ne_eqb}
+use Rattle.std.proofs.Common.{◌≡◌, ℕ, ◌+◌, ◌<◌, ◌≤◌, Bool, true, false, cond, ◌&&◌, List, [], ◌∷◌, ◌++◌, length, drop, Ok, Err, sym, refl, ap, ◌∙◌, subst, append-nil, arith, length-append, length-drop, drop-drop}
+use Rattle.std.proofs.lemmas.Bool.{ne_eqb}
 use Rattle.error.specs.declared.Refusal.TheVariants.{CommentNotSeparated}
 use Rattle.char_traits.specs.Chars.{not_breakz}
-use Rattle.input.specs.View.{View, Sound, Keeps}
+use Rattle.input.specs.View.{View, Keeps}
 use Rattle.input.specs.Calls.{none_left}
 use Rattle.input.proofs.Keeping.{both}
 use Rattle.runs.specs.declared.SkipTabs.{SkipTabs}
 use Rattle.runs.specs.declared.WhitespaceResult.{WhitespaceResult}
-use Rattle.runs.specs.Runs.{run_of, blanks_of, after_blanks, at_hash, comment_of, eol_run, unseparated}
-use Rattle.runs.specs.Scans.{scan_asks, Skims, flags, flags_of, SkipsBlanks, SkipsToEol}
+use Rattle.runs.specs.Runs.{run_of, blanks_of, after_blanks, at_hash, comment_of, eol_run}
+use Rattle.runs.specs.Scans.{scan_asks, Skims, flags_of, SkipsBlanks, SkipsToEol}
 
 -- one run after another, where the first did not find the end
 pub skims_both : (prompt : Bool) (asks : ℕ) (one other : List ℕ) (n m : ℕ) (v u w : View) → none_left u.ahead ≡ false → Skims prompt true asks one n v u → Skims prompt true 0 other m u w

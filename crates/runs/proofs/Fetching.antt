@@ -1,14 +1,14 @@
 -- A fetch as far as it has come. Assumes nothing.
-use Rattle.std.proofs.Common.{◌≡◌, ℕ, ◌+◌, ◌-◌, ◌<◌, ◌≤◌, min, Bool, true, false, cond, not, ◌&&◌, ltb, List, [], ◌∷◌, ◌++◌, length, take, drop, Some, None, Option, sym, refl, ap, ◌∙◌, subst, arith, length-append}
+use Rattle.std.proofs.Common.{◌≡◌, ℕ, ◌+◌, ◌-◌, ◌<◌, ◌≤◌, min, Bool, true, false, cond, not, ◌&&◌, ltb, List, [], ◌∷◌, length, take, drop, Some, None, Option, sym, refl, ap, ◌∙◌, subst, arith, length-append}
 use lib.Utf8.{encode, encodes}
 use Rattle.error.specs.declared.Refusal.{Refusal}
-use Rattle.utf8.specs.Room.{laid, Appends}
+use Rattle.utf8.specs.Room.{laid}
 use Rattle.input.specs.View.{View, Sound, Keeps}
 use Rattle.input.specs.Calls.{none_left, Skips}
 use Rattle.input.proofs.Keeping.{is_below, not_below, never}
 use Rattle.runs.specs.declared.Fetched.{Fetched}
 use Rattle.runs.specs.Runs.{run_by}
-use Rattle.runs.specs.Rooms.{fitting, beyond, part, refused, fetch_refusal}
+use Rattle.runs.specs.Rooms.{fitting, beyond, part, refused}
 use Rattle.runs.specs.Scans.{Offers, Fetches}
 use Rattle.runs.proofs.Laying.{laid_none, laid_length, laid_both, fit_one, fit_none, Appended, Full}
 use Rattle.runs.proofs.Running.{first_some, Running, all_of, rest_of, run_none, run_more, rest_is, gone, ended, offered, take_over, counted}

@@ -1,5 +1,5 @@
 -- A run is a front of what is ahead. Assumes nothing.
-use Rattle.std.proofs.Common.{◌≡◌, ℕ, ◌+◌, Bool, true, false, cond, ◌&&◌, List, [], ◌∷◌, ◌++◌, length, get_or, take, drop, sym, refl, ap, ◌∙◌, append_assoc, arith, length-append, drop-drop}
+use Rattle.std.proofs.Common.{◌≡◌, ℕ, ◌+◌, Bool, true, false, cond, List, [], ◌∷◌, ◌++◌, length, get_or, take, drop, sym, refl, ap, ◌∙◌, append_assoc, arith, length-append, drop-drop}
 use lib.Seq.{take-append_seam}
 use Rattle.char_traits.specs.Chars.{not_breakz}
 use Rattle.input.specs.Calls.{none_left}

@@ -2,7 +2,7 @@
 use Rattle.std.proofs.Common.{◌≡◌, ℕ, zero, suc, ◌+◌, ◌-◌, ◌<◌, ◌≤◌, Bool, true, false, cond, ◌&&◌, ltb, List, [], ◌∷◌, length, get_or, take, drop, is_some, Some, None, Option, sym, refl, ap, ◌∙◌, subst, arith, length-drop, drop-drop}
 use Rattle.input.specs.View.{View, Sound, Keeps}
 use Rattle.input.specs.Calls.{none_left, first_of, Skips}
-use Rattle.input.proofs.Keeping.{never, still, both, below, is_below, not_below}
+use Rattle.input.proofs.Keeping.{never, still, both, is_below, not_below}
 use Rattle.runs.specs.declared.Colon.{Colon}
 use Rattle.runs.specs.declared.Colon.TheVariants.{Free, Stops, Leads}
 use Rattle.runs.specs.Runs.{run_by}

@@ -1,5 +1,5 @@
 -- Runs of characters, from the productions of YAML 1.2.2. Assumes nothing.
-use Rattle.std.specs.Prelude.{ℕ, Bool, true, false, cond, not, ◌&&◌, ◌||◌, List, [], ◌∷◌, ◌++◌, length, drop, ◌==◌, nat_lt, slice_index}
+use Rattle.std.specs.Prelude.{ℕ, Bool, false, cond, not, ◌&&◌, ◌||◌, List, [], ◌∷◌, ◌++◌, length, drop, ◌==◌, nat_lt, slice_index}
 use Rattle.char_traits.specs.Chars.{blank, not_breakz, plain_safe}
 use Rattle.input.specs.Calls.{none_left}
 use Rattle.runs.specs.declared.Colon.{Colon}

@@ -1,4 +1,5 @@
 //! Runs of characters, skipped or fetched character by character, over any input.
+#![tactic(auto)]
 
 ghost use Rattle.std.specs.Prelude.{◌≡◌};
 

@@ -1,5 +1,5 @@
 -- What a step of a source gives. Assumes nothing.
-use Rattle.std.specs.Prelude.{◌≡◌, ℕ, ◌+◌, Bool, true, List, [], ◌∷◌, length, Some, None, Option}
+use Rattle.std.specs.Prelude.{◌≡◌, ℕ, ◌+◌, List, [], ◌∷◌, length, Some, None, Option}
 use Rattle.error.specs.Numbers.{ending_number}
 use Rattle.error.specs.declared.Ending.{Ending}
 use Rattle.error.specs.declared.Ending.TheVariants.{Clean, Faulty}

@@ -1,4 +1,5 @@
 //! Where characters come from: characters ahead, and an ending.
+#![tactic(auto)]
 
 ghost use Rattle.std.specs.Prelude.{◌≡◌, ℕ, ◌≤◌, Bool, true, List, length, None};
 ghost use Rattle.std.proofs.Math.Utf8.{encodes, scalars};

@@ -1,4 +1,5 @@
 //! A text at hand as an input.
+#![tactic(auto)]
 
 mod bytes;
 pub mod text;

@@ -1,4 +1,5 @@
 //! Characters and runs of them in the bytes of a text.
+#![tactic(auto)]
 
 pub mod bytes;
 pub mod ends;

@@ -1,5 +1,5 @@
 -- Well-formed bytes, row by row, and the characters that they stand for. Assumes nothing.
-use Rattle.std.proofs.Common.{◌≡◌, ℕ, zero, suc, ◌+◌, ◌<◌, ◌≤◌, Bool, true, false, ◌&&◌, List, [], ◌∷◌, ◌++◌, map, length, take, drop, IsUtf8, sym, refl, ap, ◌∙◌, subst, ap₂, append_assoc, suc-add, zero-add, arith, length-drop}
+use Rattle.std.proofs.Common.{◌≡◌, ℕ, zero, suc, ◌+◌, ◌≤◌, Bool, true, false, ◌&&◌, List, [], ◌∷◌, ◌++◌, map, length, take, drop, IsUtf8, sym, refl, ap, ◌∙◌, subst, ap₂, append_assoc, suc-add, zero-add, arith, length-drop}
 use lib.Utf8.{encode, encodes, scalar, scalars}
 use Rattle.std.proofs.lemmas.List.{take_all}
 use Rattle.std.proofs.lemmas.Str.{encodes_same}

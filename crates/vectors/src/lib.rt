@@ -1,4 +1,5 @@
 //! Vectors, run as tests.
+#![tactic(auto)]
 
 #[cfg(test)]
 mod classes;

@@ -1,4 +1,4 @@
-use Rattle.std.proofs.Common.{◌≡◌, ◌<◌, length, take, vec_items, ap, ◌∙◌, arith}
+use Rattle.std.proofs.Common.{◌<◌, length, vec_items, ◌∙◌, arith}
 use Rattle.std.proofs.lemmas.List.{get_or_read}
 use Rattle.checklist.proofs.Fronts.{take_min, codes_more}
 use Rattle.checklist.proofs.pulls.codes_of.Goals as goal

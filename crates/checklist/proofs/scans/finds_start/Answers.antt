@@ -1,5 +1,5 @@
-use Rattle.std.proofs.Common.{ℕ, ◌≤◌, get_or, drop, ap, ◌∙◌, arith}
-use Rattle.input.proofs.Marking.{marker_told, marker_unrefused}
+use Rattle.std.proofs.Common.{◌≤◌, get_or, drop, ap, ◌∙◌, arith}
+use Rattle.input.proofs.Marking.{marker_told}
 use Rattle.checklist.proofs.scans.finds_start.Goals as goal
 
 pub returns-in-Ok : goal.returns-in-Ok

@@ -1,4 +1,4 @@
-use Rattle.input.proofs.Comparing.{Are, no_more, one_more, compared}
+use Rattle.input.proofs.Comparing.{no_more, one_more, compared}
 use Rattle.input.proofs.calls.next_3_are.Goals as goal
 
 pub returns : goal.returns

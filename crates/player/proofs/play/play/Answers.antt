@@ -1,7 +1,7 @@
 use Rattle.std.proofs.Common.{refl, ap}
 use Rattle.protocol.specs.declared.answer.Answer.{Answer}
 use Rattle.protocol.specs.declared.command.Call.{Call}
-use Rattle.player.specs.Meaning.{line_of, tested, part_line}
+use Rattle.player.specs.Meaning.{line_of, part_line}
 use Rattle.player.proofs.Played.{played}
 use Rattle.player.proofs.play.play.Goals as goal
 

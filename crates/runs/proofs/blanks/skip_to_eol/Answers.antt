@@ -1,8 +1,8 @@
-use Rattle.std.proofs.Common.{◌≡◌, true, false, get_or, sym, ap, ◌∙◌, arith}
+use Rattle.std.proofs.Common.{sym, ◌∙◌, arith}
 use Rattle.std.proofs.lemmas.Bool.{eq-eqb, ne_eqb}
 use Rattle.char_traits.specs.Chars.{not_breakz}
 use Rattle.runs.specs.declared.Colon.TheVariants.{Free}
-use Rattle.runs.specs.Runs.{goes, separates, at_hash}
+use Rattle.runs.specs.Runs.{goes, separates}
 use Rattle.runs.proofs.Asking.{run_short, ahead_short, skims_whole}
 use Rattle.runs.proofs.Eol.{no_comment, bare_comment, comment_after}
 use Rattle.runs.proofs.blanks.skip_to_eol.Goals as goal

@@ -1,5 +1,5 @@
 use Rattle.std.proofs.Common.{sym, ◌∙◌, arith}
-use Rattle.runs.proofs.Running.{some_of, none_of, sees_more, run_none, run_more, run_ended, run_counted}
+use Rattle.runs.proofs.Running.{some_of, none_of, run_more, run_ended}
 use Rattle.runs.proofs.steps.skip_run.Goals as goal
 
 pub loop-taken-preserved : goal.loop-taken-preserved

@@ -1,5 +1,5 @@
-use Rattle.std.proofs.Common.{◌≡◌, ◌+◌, ◌<◌, ◌≤◌, length, sym, refl, arith, length-drop, ltb-false, ltb-true}
-use Rattle.error.specs.Limit.{text_limit, place_fits}
+use Rattle.std.proofs.Common.{◌+◌, ◌≤◌, length, sym, refl, arith, length-drop, ltb-false, ltb-true}
+use Rattle.error.specs.Limit.{place_fits}
 use Rattle.utf8.specs.Checking.{text, too_long, ill_formed}
 use Rattle.utf8.proofs.Leads.{forward}
 use Rattle.utf8.proofs.Texts.{formed_none, formed_more, formed_whole, agree}

@@ -1,4 +1,4 @@
-use Rattle.std.proofs.Common.{◌≡◌, ℕ, Bool, false, cond, ltb, List, [], length, sym, refl, ap, ◌∙◌, le-ltb}
+use Rattle.std.proofs.Common.{Bool, cond, [], length, sym, refl, ap, ◌∙◌, le-ltb}
 use Rattle.input.specs.Tests.{flag, found, match}
 use Rattle.buffered.specs.Buffered.{ring_shows}
 use Rattle.buffered.proofs.buffered_input.BufferedInputInput.next_are.Goals as goal

@@ -1,4 +1,4 @@
-use Rattle.std.proofs.Common.{◌≡◌, ◌<◌, Bool, ◌&&◌, length, sym, ap, ◌∙◌, arith}
+use Rattle.std.proofs.Common.{◌<◌, Bool, ◌&&◌, length, sym, ap, ◌∙◌, arith}
 use Rattle.input.specs.Calls.{none_left}
 use Rattle.input.proofs.Keeping.{never}
 use Rattle.buffered.specs.Store.{queue}

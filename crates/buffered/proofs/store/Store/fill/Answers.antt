@@ -1,4 +1,4 @@
-use Rattle.std.proofs.Common.{◌≡◌, ◌<◌, ◌≤◌, length, refl, arith}
+use Rattle.std.proofs.Common.{◌<◌, ◌≤◌, length, refl, arith}
 use Rattle.buffered.specs.Store.{queue}
 use Rattle.buffered.specs.Rings.{held_length}
 use Rattle.buffered.proofs.Filling.{fill_more, fill_end, fill_all}
