@@ -10,5 +10,6 @@ pub mod packets_source;
 mod shift;
 pub mod stash;
 pub mod stash_input;
+pub mod stash_scan;
 #[cfg(test)]
 mod tests;

@@ -3,3 +3,4 @@ pub mod Runs
 pub mod Fronts
 pub mod Markers
 pub mod Loading
+pub mod Scanning

@@ -36,6 +36,12 @@ pub record Widens (n : ℕ) (x y : StrInput) : Type 0 where
   pub place : y.place ≡ x.place
   pub window : y.window ≡ max x.window n
 
+-- both: so many characters are taken in a window that is raised first
+pub record TakesWide (asks n : ℕ) (x y : StrInput) : Type 0 where
+  pub text : whole y ≡ whole x
+  pub window : y.window ≡ max x.window asks
+  pub ahead : ahead_of y ≡ drop n (ahead_of x)
+
 -- all of a text is ahead
 pub record Opens (bytes : List ℕ) (x : StrInput) : Type 0 where
   pub text : whole x ≡ bytes

@@ -5,3 +5,4 @@ mod bytes;
 pub mod text;
 pub mod text_borrowed;
 pub mod text_input;
+pub mod text_scan;

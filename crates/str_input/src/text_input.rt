@@ -48,7 +48,7 @@ impl<'a> StrInput<'a> {
         Ok(())
     }
 
-    fn move_to(&mut self, next: usize)
+    pub(crate) fn move_to(&mut self, next: usize)
         requires { IsCharBoundary (whole self.old) next }
         ensures text { whole self.new ≡ whole self.old }
         ensures place { self.new.place ≡ next }

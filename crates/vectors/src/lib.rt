@@ -9,3 +9,5 @@ mod encoding;
 mod inputs;
 #[cfg(test)]
 mod lists;
+#[cfg(test)]
+mod scans;

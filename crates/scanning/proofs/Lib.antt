@@ -1,0 +1,6 @@
+pub mod Runs
+pub mod Fronts
+pub mod Facts
+pub mod Courses
+pub mod Shown
+pub mod Alike

@@ -1,0 +1,185 @@
+//! The scanning calls over the text's bytes: each finds the end of its run first, and a fetch copies it at once.
+
+ghost use Rattle.std.specs.Prelude.{◌≡◌, true, false, length, if◌then◌else◌};
+ghost use Rattle.char_traits.specs.Chars.{blank, alpha, yaml_non_space, not_breakz, printable_not_breakz};
+ghost use Rattle.runs.specs.Runs.{goes, run_by, run_of, plain_run, at_hash};
+ghost use Rattle.runs.specs.Rooms.{beyond};
+ghost use Rattle.runs.specs.Scans.{scan_asks, Skims, Fetches, SkipsChunk, FetchesChunk, SkipsBlanks, SkipsToEol};
+ghost use Rattle.str_input.specs.Text.{whole, ahead_of, text_view, Takes, TakesWide};
+ghost use Rattle.text_bytes.specs.Ends.{AppendsRun};
+
+use crate::text::StrInput;
+use char_traits::class::{
+    Alpha, Blank, Class, NotBreakz, PlainSafe, PlainSafeInFlow, PrintableNotBreakz, YamlNonSpace,
+};
+use error::Refusal;
+use input::Input;
+use runs::{Colon, Fetched, SkipTabs, WhitespaceResult};
+use scan::Scan;
+use text_bytes::bytes::nth;
+use text_bytes::ends::{blanks_end, run_end};
+use text_bytes::parts::fetch_run;
+
+impl StrInput<'_> {
+    fn skip_run<C: Class>(&mut self, colon: Colon) -> usize
+        ensures number { result ≡ length (run_by (goes C.Class.member colon) (ahead_of self.old)) }
+        ensures takes { Takes result self.old self.new }
+    {
+        let (end, count) = run_end::<C>(self.text, self.place as usize, colon);
+        self.move_to(end);
+        count
+    }
+
+    fn fetch_run<C: Class>(&mut self, colon: Colon, room: &mut [u8], filled: usize) -> Fetched
+        ensures appends { AppendsRun (run_by (goes C.Class.member colon) (ahead_of self.old)) room.old filled result room.new }
+        ensures takes { Takes result.count self.old self.new }
+        ensures unmoved { beyond room.old filled ≡ true → self.new ≡ self.old }
+    {
+        let (place, fetched) = fetch_run::<C>(self.text, self.place as usize, colon, room, filled);
+        // A fetch that takes nothing leaves the reader as it was.
+        if fetched.count > 0 {
+            self.move_to(place);
+        }
+        fetched
+    }
+
+    fn skip_plain(&mut self, in_flow: bool) -> usize
+        ensures number { result ≡ length (plain_run in_flow (ahead_of self.old)) }
+        ensures takes { Takes result self.old self.new }
+    {
+        if in_flow {
+            self.skip_run::<PlainSafeInFlow>(Colon::Leads)
+        } else {
+            self.skip_run::<PlainSafe>(Colon::Leads)
+        }
+    }
+
+    fn fetch_plain(&mut self, in_flow: bool, room: &mut [u8], filled: usize) -> Fetched
+        ensures appends { AppendsRun (plain_run in_flow (ahead_of self.old)) room.old filled result room.new }
+        ensures takes { Takes result.count self.old self.new }
+        ensures unmoved { beyond room.old filled ≡ true → self.new ≡ self.old }
+    {
+        if in_flow {
+            self.fetch_run::<PlainSafeInFlow>(Colon::Leads, room, filled)
+        } else {
+            self.fetch_run::<PlainSafe>(Colon::Leads, room, filled)
+        }
+    }
+
+    fn is_at_hash(&self) -> bool
+        ensures { result ≡ at_hash (ahead_of self.now) }
+    {
+        nth(self.text, self.place as usize, 0) == '#'
+    }
+}
+
+impl Scan for StrInput<'_> {
+    fn skip_while_blank(&mut self) -> usize
+        ensures skims { Skims false true (scan_asks false) (run_of blank (text_view self.old).ahead) result (text_view self.old) (text_view self.new) }
+        ensures takes { Takes result self.old self.new }
+    {
+        self.skip_run::<Blank>(Colon::Free)
+    }
+
+    fn skip_while_non_breakz(&mut self) -> usize
+        ensures skims { Skims false true (scan_asks false) (run_of printable_not_breakz (text_view self.old).ahead) result (text_view self.old) (text_view self.new) }
+        ensures takes { Takes result self.old self.new }
+    {
+        self.skip_run::<PrintableNotBreakz>(Colon::Free)
+    }
+
+    fn fetch_while_is_alpha(&mut self, room: &mut [u8], filled: usize) -> Fetched
+        ensures fetches { Fetches false true (scan_asks false) (run_of alpha (text_view self.old).ahead) room.old filled result room.new (text_view self.old) (text_view self.new) }
+        ensures takes { Takes result.count self.old self.new }
+        ensures unmoved { beyond room.old filled ≡ true → self.new ≡ self.old }
+    {
+        self.fetch_run::<Alpha>(Colon::Free, room, filled)
+    }
+
+    fn fetch_while_is_yaml_non_space(&mut self, room: &mut [u8], filled: usize) -> Fetched
+        ensures fetches { Fetches false true (scan_asks false) (run_of yaml_non_space (text_view self.old).ahead) room.old filled result room.new (text_view self.old) (text_view self.new) }
+        ensures takes { Takes result.count self.old self.new }
+        ensures unmoved { beyond room.old filled ≡ true → self.new ≡ self.old }
+    {
+        self.fetch_run::<YamlNonSpace>(Colon::Free, room, filled)
+    }
+
+    fn fetch_block_scalar_line(&mut self, room: &mut [u8], filled: usize) -> Fetched
+        ensures fetches { Fetches false true 0 (run_of not_breakz (text_view self.old).ahead) room.old filled result room.new (text_view self.old) (text_view self.new) }
+        ensures takes { Takes result.count self.old self.new }
+        ensures unmoved { beyond room.old filled ≡ true → self.new ≡ self.old }
+    {
+        self.fetch_run::<NotBreakz>(Colon::Free, room, filled)
+    }
+
+    fn skip_ws_to_eol(&mut self, skip_tabs: SkipTabs) -> (usize, Result<WhitespaceResult, Refusal>)
+        ensures skips { SkipsToEol false skip_tabs result (text_view self.old) (text_view self.new) }
+        ensures takes { Takes result.0 self.old self.new }
+    {
+        let (blanks, seen) = self.skip_ws_to_eol_blanks(skip_tabs);
+        if !self.is_at_hash() {
+            return (blanks, Ok(seen));
+        }
+        if blanks == 0 {
+            return (0, Err(Refusal::CommentNotSeparated));
+        }
+        let comment = self.skip_run::<NotBreakz>(Colon::Free);
+        (blanks + comment, Ok(seen))
+    }
+
+    fn skip_ws_to_eol_blanks(&mut self, skip_tabs: SkipTabs) -> (usize, WhitespaceResult)
+        ensures skips { SkipsBlanks false skip_tabs result (text_view self.old) (text_view self.new) }
+        ensures takes { Takes result.0 self.old self.new }
+    {
+        let start = self.place as usize;
+        let (end, seen) = blanks_end(self.text, start, skip_tabs);
+        self.move_to(end);
+        (end - start, seen)
+    }
+
+    /// The whole plain run, whatever the count.
+    fn fetch_plain_scalar_chunk(
+        &mut self,
+        room: &mut [u8],
+        filled: usize,
+        count: usize,
+        in_flow: bool,
+    ) -> (bool, Fetched)
+        ensures fetches { FetchesChunk false in_flow count room.old filled result room.new (text_view self.old) (text_view self.new) }
+        ensures all { AppendsRun (plain_run in_flow (ahead_of self.old)) room.old filled result.1 room.new }
+        ensures stopped { result.0 ≡ true }
+        ensures takes { Takes result.1.count self.old self.new }
+        ensures unmoved { beyond room.old filled ≡ true → self.new ≡ self.old }
+    {
+        (true, self.fetch_plain(in_flow, room, filled))
+    }
+
+    /// The whole plain run, whatever the count.
+    fn skip_plain_scalar_chunk(&mut self, count: usize, in_flow: bool) -> (bool, usize)
+        ensures skips { SkipsChunk false in_flow count result (text_view self.old) (text_view self.new) }
+        ensures all { result.1 ≡ length (plain_run in_flow (ahead_of self.old)) }
+        ensures stopped { result.0 ≡ true }
+        ensures takes { Takes result.1 self.old self.new }
+    {
+        (true, self.skip_plain(in_flow))
+    }
+
+    fn fetch_plain_run(&mut self, room: &mut [u8], filled: usize, in_flow: bool) -> Fetched
+        ensures fetches { Fetches false true 2 (plain_run in_flow (text_view self.old).ahead) room.old filled result room.new (text_view self.old) (text_view self.new) }
+        ensures takes { TakesWide (if beyond room.old filled then 0 else 2) result.count self.old self.new }
+        ensures unmoved { beyond room.old filled ≡ true → self.new ≡ self.old }
+    {
+        if filled <= room.len() {
+            self.lookahead(2);
+        }
+        self.fetch_plain(in_flow, room, filled)
+    }
+
+    fn skip_plain_run(&mut self, in_flow: bool) -> usize
+        ensures skims { Skims false true 2 (plain_run in_flow (text_view self.old).ahead) result (text_view self.old) (text_view self.new) }
+        ensures takes { TakesWide 2 result self.old self.new }
+    {
+        self.lookahead(2);
+        self.skip_plain(in_flow)
+    }
+}
