@@ -114,7 +114,7 @@ fn rooms_in_lists(rt: HostRuntime) -> Result<(), Fail> {
     card_and_cable("abé".as_bytes(), source, &mut one, &mut other)?;
     assert_eq!(rt; fetched_of(&one[0]), (2, 7));
     assert_eq!(rt; fetched_of(&other[0]), (2, 7));
-    assert!(rt; one[0].room.as_slice() == b"ab\xEE");
-    assert!(rt; other[0].room.as_slice() == b"ab\xEE");
+    assert!(rt; one[0].room.as_slice() == b"ab\xEE".as_slice());
+    assert!(rt; other[0].room.as_slice() == b"ab\xEE".as_slice());
     Ok(())
 }
