@@ -1,8 +1,7 @@
 //! Sets of characters that a scan can run over.
 
-ghost use Rattle.std.specs.Prelude.{◌≡◌, ℕ, Bool, true, false};
+ghost use Rattle.std.specs.Prelude.{◌≡◌, ℕ, Bool, true, false, refl};
 ghost use Rattle.char_traits.specs.Chars.{blank, alpha, yaml_non_space, not_breakz, printable_not_breakz, plain_safe};
-ghost use Rattle.std.proofs.Common.{rules};
 
 use crate::{
     is_alpha, is_blank, is_blank_or_breakz, is_breakz, is_flow, is_printable, is_yaml_non_space,
@@ -24,7 +23,7 @@ pub struct Blank;
 impl Class for Blank {
     ghost member = { blank };
 
-    ghost without_nul = { Prim.search rules };
+    ghost without_nul = { refl };
 
     fn has(c: char) -> bool {
         is_blank(c)
@@ -37,7 +36,7 @@ pub struct Alpha;
 impl Class for Alpha {
     ghost member = { alpha };
 
-    ghost without_nul = { Prim.search rules };
+    ghost without_nul = { refl };
 
     fn has(c: char) -> bool {
         is_alpha(c)
@@ -50,7 +49,7 @@ pub struct YamlNonSpace;
 impl Class for YamlNonSpace {
     ghost member = { yaml_non_space };
 
-    ghost without_nul = { Prim.search rules };
+    ghost without_nul = { refl };
 
     fn has(c: char) -> bool {
         is_yaml_non_space(c)
@@ -63,7 +62,7 @@ pub struct NotBreakz;
 impl Class for NotBreakz {
     ghost member = { not_breakz };
 
-    ghost without_nul = { Prim.search rules };
+    ghost without_nul = { refl };
 
     fn has(c: char) -> bool {
         !is_breakz(c)
@@ -76,7 +75,7 @@ pub struct PrintableNotBreakz;
 impl Class for PrintableNotBreakz {
     ghost member = { printable_not_breakz };
 
-    ghost without_nul = { Prim.search rules };
+    ghost without_nul = { refl };
 
     fn has(c: char) -> bool {
         is_printable(c) && !is_breakz(c)
@@ -89,7 +88,7 @@ pub struct PlainSafe;
 impl Class for PlainSafe {
     ghost member = { plain_safe false };
 
-    ghost without_nul = { Prim.search rules };
+    ghost without_nul = { refl };
 
     fn has(c: char) -> bool {
         !is_blank_or_breakz(c)
@@ -102,7 +101,7 @@ pub struct PlainSafeInFlow;
 impl Class for PlainSafeInFlow {
     ghost member = { plain_safe true };
 
-    ghost without_nul = { Prim.search rules };
+    ghost without_nul = { refl };
 
     fn has(c: char) -> bool {
         !is_blank_or_breakz(c) && !is_flow(c)
