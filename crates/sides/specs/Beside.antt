@@ -22,6 +22,6 @@ pub record Beside (p q : Bool) (m n : ℕ) (chars ahead : List ℕ) (e f : Endin
   pub other : Opened q n ahead f ms
 
 -- a refusal leaves the lists as they were
-pub record Untouched (one one_after other other_After : List Step) : Type 0 where
+pub record Untouched (one one_after other other_after : List Step) : Type 0 where
   pub first : one_after ≡ one
-  pub second : other_After ≡ other
+  pub second : other_after ≡ other

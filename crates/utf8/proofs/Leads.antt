@@ -7,40 +7,40 @@ use Rattle.std.proofs.lemmas.Bool.Decides.{nat_tests}
 use Rattle.std.proofs.lemmas.Str.{encode_same, length-encode, len_utf8_bounds}
 use Rattle.utf8.proofs.Encoded.{enc1, enc2, enc3, enc4}
 use Rattle.utf8.specs.Table.{row1, row2, row3, row4, tabled}
-use Rattle.utf8.specs.Decoding.{of_ones, width_of, IsChar, IsIll, Decodes, Returns, Reads, told}
+use Rattle.utf8.specs.Decoding.{of_ones, lead_width, IsChar, IsIll, Decodes, Returns, Reads, told}
 use Rattle.utf8.specs.declared.decoder.Decoded.{Decoded}
 use Rattle.utf8.specs.declared.decoder.Decoded.TheVariants.{Char, IllFormed, End}
 
 -- k leading ones in a byte of which the rest has j bits
-ones : (a k j : ℕ) → k + j ≡ 8 → 255 - a < 2 ^ j → 2 ^ j ≤ 2 * (255 - a) + 1 → width_of a ≡ of_ones k
+ones : (a k j : ℕ) → k + j ≡ 8 → 255 - a < 2 ^ j → 2 ^ j ≤ 2 * (255 - a) + 1 → lead_width a ≡ of_ones k
 ones a k j e l h = sym (ap of_ones (leading_unique 8 (255 - a) k j e l h))
 
 pub clash : false ≡ true → ⊥
 clash e = let z : ◌≡◌ {A = ℕ} 0 1 = cc in omega arith
 
-width1 : (a : ℕ) → row1 a ≡ true → width_of a ≡ 1
+width1 : (a : ℕ) → row1 a ≡ true → lead_width a ≡ 1
 width1 a t = let h : a ≤ 127 = grind (arith, nat_tests) in ones a 0 8 refl (omega arith) (omega arith)
 
-width2 : (a b : ℕ) → row2 a b ≡ true → width_of a ≡ 2
+width2 : (a b : ℕ) → row2 a b ≡ true → lead_width a ≡ 2
 width2 a b t =
     let l : 192 ≤ a = grind (arith, nat_tests) in
     let h : a ≤ 223 = grind (arith, nat_tests) in
     ones a 2 6 refl (omega arith) (omega arith)
 
-width3 : (a b c : ℕ) → row3 a b c ≡ true → width_of a ≡ 3
+width3 : (a b c : ℕ) → row3 a b c ≡ true → lead_width a ≡ 3
 width3 a b c t =
     let l : 224 ≤ a = grind (arith, nat_tests) in
     let h : a ≤ 239 = grind (arith, nat_tests) in
     ones a 3 5 refl (omega arith) (omega arith)
 
-width4 : (a b c d : ℕ) → row4 a b c d ≡ true → width_of a ≡ 4
+width4 : (a b c d : ℕ) → row4 a b c d ≡ true → lead_width a ≡ 4
 width4 a b c d t =
     let l : 240 ≤ a = grind (arith, nat_tests) in
     let h : a ≤ 247 = grind (arith, nat_tests) in
     ones a 4 4 refl (omega arith) (omega arith)
 
 -- a front that is in the table is as long as its first byte tells
-pub width_told : (xs : List ℕ) (n : ℕ) → n ≤ length xs → tabled (take n xs) ≡ true → width_of (get_or xs 0 0) ≡ n
+pub width_told : (xs : List ℕ) (n : ℕ) → n ≤ length xs → tabled (take n xs) ≡ true → lead_width (get_or xs 0 0) ≡ n
 width_told xs zero h t = absurd (clash t)
 width_told [] (suc n) h t = absurd (not-suc-le-zero h)
 width_told (a ∷ xs) (suc zero) h t = width1 a t
@@ -54,7 +54,7 @@ width_told (a ∷ b ∷ c ∷ d ∷ []) (suc (suc (suc (suc (suc n))))) h t = ab
 width_told (a ∷ b ∷ c ∷ d ∷ e ∷ xs) (suc (suc (suc (suc (suc n))))) h t = absurd (clash t)
 
 -- so nothing is in the table if the front of that length is not
-pub ill : (xs : List ℕ) (w : ℕ) → w ≡ width_of (get_or xs 0 0) → 0 < length xs → (w ≤ length xs → tabled (take w xs) ≡ false) → IsIll xs
+pub ill : (xs : List ℕ) (w : ℕ) → w ≡ lead_width (get_or xs 0 0) → 0 < length xs → (w ≤ length xs → tabled (take w xs) ≡ false) → IsIll xs
 ill xs w is s out =
     record {
       some = s;

@@ -38,8 +38,8 @@ Returns bytes answer = (c : ℕ) (rest : List ℕ) → scalar c ≡ true → byt
 abbrev pub of_ones : ℕ → ℕ
 of_ones n = cond (n == 0) 1 (cond (is_in_range 2 4 n) n 0)
 
-abbrev pub width_of : ℕ → ℕ
-width_of first = of_ones (count_leading_zeros 8 (255 - first))
+abbrev pub lead_width : ℕ → ℕ
+lead_width first = of_ones (count_leading_zeros 8 (255 - first))
 
 -- what is read of bytes that may be one row of the table
 abbrev pub Reads : List ℕ → Option ℕ → Type 0

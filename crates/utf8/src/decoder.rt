@@ -2,7 +2,7 @@
 
 ghost use Rattle.std.specs.Prelude.{◌≡◌, ◌%◌, drop};
 ghost use Rattle.utf8.specs.Table.{row1, row2, row3, row4};
-ghost use Rattle.utf8.specs.Decoding.{told, width_of, Decodes, Reads, Returns};
+ghost use Rattle.utf8.specs.Decoding.{told, lead_width, Decodes, Reads, Returns};
 
 /// What stands at the front of some bytes.
 #[derive(Clone, Copy, Debug, PartialEq)]
@@ -76,7 +76,7 @@ fn character(row: &[u8]) -> Option<char>
 
 /// How many bytes a character has, by the count of leading one bits of its first byte; 0 if no character begins so.
 fn width_of(first: u8) -> usize
-    ensures { result ≡ width_of first }
+    ensures { result ≡ lead_width first }
 {
     match first.leading_ones() {
         0 => 1,
