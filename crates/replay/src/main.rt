@@ -1,4 +1,5 @@
 //! Reads commands from its standard input, one a line, performs them on inputs, and answers each in a line.
+#![tactic(auto)]
 
 ghost use Rattle.std.specs.Prelude.{◌<◌, ◌≤◌, length, IfOk};
 

@@ -1,4 +1,5 @@
 //! A card beside a cable: one list taken through a slice over a text and a ring over any failing source.
+#![tactic(auto)]
 
 ghost use Rattle.std.specs.Prelude.{true, false, [], MatchResult};
 ghost use Rattle.std.specs.Str.{chars};

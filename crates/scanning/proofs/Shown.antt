@@ -1,11 +1,9 @@
 -- Tests of inputs that show the same characters within their reach. Assumes nothing.
-use Rattle.std.proofs.Common.{◌≡◌, ℕ, suc, ◌<◌, ◌≤◌, Bool, true, false, cond, ◌&&◌, eqb, List, [], ◌∷◌, length, Some, None, Option, sym, refl, ap, ◌∙◌, ap₂, arith}
-use Rattle.char_traits.specs.Chars.{blank_or_breakz, flow}
+use Rattle.std.proofs.Common.{◌≡◌, ℕ, suc, ◌<◌, ◌≤◌, Bool, true, cond, ◌&&◌, eqb, List, [], ◌∷◌, length, Option, sym, refl, ap, ◌∙◌, ap₂, arith}
 use Rattle.input.specs.declared.Marker.{Marker}
-use Rattle.input.specs.declared.Marker.TheVariants.{Start, End}
 use Rattle.input.specs.View.{View}
 use Rattle.input.specs.Calls.{none_left}
-use Rattle.input.specs.Tests.{flag, found, without_nul, Matches, narrow as narrow_match, match, Compares, none, same, ComparesAll, none as none_of, all, marker_in, IsMarker, narrow, marked, plain_goes_on}
+use Rattle.input.specs.Tests.{flag, found, without_nul, Matches, narrow as narrow_match, match, Compares, none, same, ComparesAll, none as none_of, all, IsMarker, narrow, marked, plain_goes_on}
 use Rattle.input.proofs.Keeping.{never}
 use Rattle.input.proofs.Marking.{marker_same}
 use Rattle.scanning.specs.declared.call.Test.{Test}

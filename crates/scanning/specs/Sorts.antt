@@ -1,5 +1,5 @@
 -- The calls of a list, a line for each. Assumes nothing.
-use Rattle.std.specs.Prelude.{ℕ, ◌+◌, min, Bool, true, false, cond, ◌&&◌, List, [], ◌∷◌}
+use Rattle.std.specs.Prelude.{ℕ, ◌+◌, min, Bool, true, false, cond, ◌&&◌, [], ◌∷◌}
 use Rattle.input.specs.Tests.{without_nul}
 use Rattle.runs.specs.Rooms.{beyond}
 use Rattle.runs.specs.Scans.{scan_asks, chunk_asks}

@@ -1,4 +1,4 @@
-use Rattle.std.proofs.Common.{ℕ, sym, subst}
+use Rattle.std.proofs.Common.{sym, subst}
 use Rattle.error.specs.Numbers.{outcome}
 use Rattle.input.specs.Tests.{flag}
 use Rattle.scanning.specs.declared.call.Test.{Test}
