@@ -12,6 +12,7 @@ use protocol::answer::Answer;
 use protocol::make::{Make, parse_new};
 use std::io;
 use std::io::Read;
+use std::process::ExitCode;
 
 /// The list that begins with a line for a new input. Tells where the next such line is, or the end.
 fn list(rt: &HostRuntime, text: &[u8], at: usize, desk: &mut Desk) -> io::Result<usize>
@@ -57,6 +58,9 @@ fn report(rt: &HostRuntime, res: io::Result<()>) -> io::Result<()> {
     res
 }
 
-fn main(rt: HostRuntime) -> io::Result<()> {
-    report(&rt, read_and_run(&rt))
+fn main(rt: HostRuntime) -> ExitCode {
+    match report(&rt, read_and_run(&rt)) {
+        Ok(()) => ExitCode::SUCCESS,
+        Err(_) => ExitCode::FAILURE,
+    }
 }

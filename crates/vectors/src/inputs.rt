@@ -1,4 +1,4 @@
-//! The worked examples that the calls built so far can read, on slice and ring.
+//! The worked examples of tests, askings and endings, on slice and ring.
 
 use buffered::fallible::FallibleBufferedInput;
 use error::{Fault, FaultKind, Refusal};

@@ -10,4 +10,6 @@ mod inputs;
 #[cfg(test)]
 mod lists;
 #[cfg(test)]
+mod scan_lists;
+#[cfg(test)]
 mod scans;
