@@ -1,5 +1,5 @@
 -- What is drawn, taken and drawn again. Assumes nothing.
-use Rattle.std.proofs.Common.{◌≡◌, ℕ, ◌<◌, Bool, true, false, cond, ◌||◌, eqb, ltb, List, [], ◌∷◌, ◌++◌, length, Some, None, Option, sym, refl, ap, ◌∙◌, ap₂, arith}
+use Rattle.std.proofs.Common.{◌≡◌, ℕ, ◌<◌, Bool, true, false, cond, ◌&&◌, ◌||◌, eqb, ltb, List, [], ◌∷◌, ◌++◌, length, Some, None, Option, sym, refl, ap, ◌∙◌, ap₂, arith}
 use lib.Dec.{eqb-suc-zero}
 use Rattle.error.specs.declared.Ending.{Ending}
 use Rattle.error.specs.declared.Ending.TheVariants.{Clean}
@@ -9,7 +9,10 @@ use Rattle.input.specs.Calls.{none_left, first_of, first_in_line}
 use Rattle.input.proofs.Keeping.{never, below, one_is_none}
 use Rattle.buffered.specs.declared.ring.Ring.{Ring}
 use Rattle.buffered.specs.declared.store.Store.{Store}
+use Rattle.buffered.specs.declared.buffered.BufferedInput.{BufferedInput}
 use Rattle.buffered.specs.Store.{queue, to_come, all_of, Fills, Feeds}
+use Rattle.buffered.specs.Buffered.{at_end}
+use Rattle.buffered.specs.Rings.{held_length}
 
 abbrev pub view_of : {S : Type 0} → (S → List ℕ) → Store S → ℕ → View
 view_of ahead x window = record { ahead = all_of ahead x; window = window; ending = Clean; met = x.met; told = false }
@@ -81,7 +84,8 @@ module _ {S : Type 0} (ahead : S → List ℕ) (kept : S → Ending) (ended : S 
               (λ t. let lt = below _ _ t in waits (omega (arith, ap length one.same)));
         }
 
-  -- the end is seen exactly if nothing is held and the source has ended
+-- the end is seen exactly if nothing is held and the source has ended
+module _ {S : Type 0} (ahead : S → List ℕ) where
   pub z_met : (x : Store S) → x.met ≡ true → none_left (all_of ahead x) ≡ none_left (queue x.ring)
   z_met x m = ap (λ (b : Bool). none_left (queue x.ring ++ cond b [] (ahead x.source))) m ∙ ap none_left (append_none (queue x.ring))
     where
@@ -99,6 +103,25 @@ module _ {S : Type 0} (ahead : S → List ℕ) (kept : S → Ending) (ended : S 
 pub none_length : (q : List ℕ) (n : ℕ) → length q ≡ n → eqb n 0 ≡ none_left q
 none_length [] n e = ap (λ k. eqb k 0) (sym e)
 none_length (c ∷ q) n e = ap (λ k. eqb k 0) (sym e) ∙ eqb-suc-zero (length q)
+
+-- the end is told, by whether the ending was met
+pub end_when_met : {S : Type 0} (x : BufferedInput S) → x.store.met ≡ true → eqb x.store.ring.len 0 ≡ at_end x
+end_when_met x m =
+    let ring = x.store.ring in
+    none_length (queue ring) ring.len (held_length ring.places ring.head ring.len) ∙ ap (λ (b : Bool). b && none_left (queue ring)) (sym m)
+
+pub end_when_unmet : {S : Type 0} (x : BufferedInput S) → x.store.met ≡ false → false ≡ at_end x
+end_when_unmet x m = ap (λ (b : Bool). b && none_left (queue x.store.ring)) (sym m)
+
+pub z_when_met : {S : Type 0} (ahead : S → List ℕ) (x : BufferedInput S) → x.store.met ≡ true → eqb x.store.ring.len 0 ≡ none_left (all_of ahead x.store)
+z_when_met ahead x m =
+    let ring = x.store.ring in
+    none_length (queue ring) ring.len (held_length ring.places ring.head ring.len) ∙ sym (z_met ahead x.store m)
+
+pub z_when_unmet : {S : Type 0} (ahead : S → List ℕ) (x : BufferedInput S) → x.store.met ≡ false → 0 < x.window → false ≡ none_left (all_of ahead x.store)
+z_when_unmet ahead x m w =
+    let some : length (queue x.store.ring) < x.window → ⊥ = λ h. never (sym m ∙ x.filled h) in
+    sym (z_held ahead x.store (omega arith))
 
 -- nothing is read at the end of a line
 pub line_break : (a : List ℕ) (r : Option ℕ) (c : ℕ) → r ≡ first_of a → r ≡ Some c → breakz c ≡ true → None ≡ first_in_line a

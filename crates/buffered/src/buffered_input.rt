@@ -128,6 +128,7 @@ impl<S: Source> Input for BufferedInput<S> {
         self.store.ring.at(n)
     }
 
+    #[tactic(auto, using(crate::proofs::Taking::end_when_met, crate::proofs::Taking::end_when_unmet, crate::proofs::Taking::z_when_met, crate::proofs::Taking::z_when_unmet))]
     fn next_is_z(&self) -> bool
         ensures windowed { 0 < self.now.window → result ≡ none_left (seen S.Source.ahead self.now).ahead }
         ensures ended { result ≡ at_end self.now }
