@@ -42,7 +42,7 @@ fn closed_whole(step: &Step) -> bool {
 }
 
 #[test]
-fn card_beside_cable(rt: HostRuntime) -> Result<(), Fail> {
+fn slice_beside_ring(rt: HostRuntime) -> Result<(), Fail> {
     let heap = rt.alloc();
     let mut source = Codes::new();
     source.load(&[0x61, 0xE9], CodesEnding::InputIo)?;
@@ -81,7 +81,7 @@ fn card_beside_cable(rt: HostRuntime) -> Result<(), Fail> {
 }
 
 #[test]
-fn radio_beside_card(rt: HostRuntime) -> Result<(), Fail> {
+fn receiver_beside_slice(rt: HostRuntime) -> Result<(), Fail> {
     let heap = rt.alloc();
     let mut packets = Packets::new();
     packets.load(
