@@ -1,7 +1,7 @@
 -- A ring as far as it has been filled. Assumes nothing.
-use Rattle.std.proofs.Common.{◌≡◌, ℕ, ◌<◌, ◌≤◌, Bool, true, false, cond, ◌||◌, ltb, List, [], ◌∷◌, ◌++◌, length, sym, refl, ap, ◌∙◌, append_assoc, arith, length-append}
-use Rattle.error.specs.declared.Ending.{Ending}
-use Rattle.input.proofs.Keeping.{never, is_below, not_below}
+use Rattle.std.proofs.Common.{◌≡◌, ℕ, ◌<◌, ◌≤◌, Bool, true, false, cond, ◌||◌, ltb, List, [], ◌∷◌, ◌++◌, length, sym, refl, ap, ◌∙◌, append_assoc, arith, length-append, lt-ltb, le-ltb}
+use Rattle.error.specs.Numbers.{Ending}
+use Rattle.input.proofs.Keeping.{never}
 use Rattle.buffered.specs.declared.ring.Ring.{Ring}
 use Rattle.buffered.specs.declared.store.Store.{Store}
 use Rattle.buffered.specs.Store.{queue, to_come, all_of, Fills, Feeds}
@@ -65,7 +65,7 @@ module _ {S : Type 0} (ahead : S → List ℕ) (kept : S → Ending) (ended : S 
       record {
         same = all;
         grows = i.grows;
-        met = λ _. or_true x.met _ (is_below _ _ few);
+        met = λ _. or_true x.met _ (lt-ltb _ _ few);
         unmet = λ t. absurd (never (sym t));
         feeds = record { stays = λ _. refl; keeps = k ∙ i.feeds.keeps; ends = λ _ _. e; still = unmoved y t i un };
       }
@@ -80,7 +80,7 @@ module _ {S : Type 0} (ahead : S → List ℕ) (kept : S → Ending) (ended : S 
           let many : upto ≤ length (all_of ahead x) = omega (arith, ap length (sym i.same) ∙ length-append (queue y.ring) (to_come ahead y)) in
           record {
             same = i.same;
-            met = m ∙ sym (ap (λ b. b || ltb (length (all_of ahead x)) upto) (i.unmet m) ∙ not_below _ _ many);
+            met = m ∙ sym (ap (λ b. b || ltb (length (all_of ahead x)) upto) (i.unmet m) ∙ le-ltb _ _ many);
             full = λ lt. absurd (omega arith);
             grows = i.grows;
           }

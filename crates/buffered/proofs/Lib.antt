@@ -1,4 +1,2 @@
-pub mod Fronts
 pub mod Filling
 pub mod Taking
-pub mod Asking

@@ -1,12 +1,11 @@
 -- What is drawn, taken and drawn again. Assumes nothing.
-use Rattle.std.proofs.Common.{◌≡◌, ℕ, ◌<◌, Bool, true, false, cond, ◌&&◌, ◌||◌, eqb, ltb, List, [], ◌∷◌, ◌++◌, length, Some, None, Option, sym, refl, ap, ◌∙◌, ap₂, arith}
+use Rattle.std.proofs.Common.{◌≡◌, ℕ, ◌<◌, Bool, true, false, cond, ◌&&◌, ◌||◌, eqb, ltb, List, [], ◌∷◌, ◌++◌, length, Some, None, Option, sym, refl, ap, ◌∙◌, ap₂, arith, ltb-true}
 use lib.Dec.{eqb-suc-zero}
-use Rattle.error.specs.declared.Ending.{Ending}
-use Rattle.error.specs.declared.Ending.TheVariants.{Clean}
+use Rattle.error.specs.Numbers.{Ending, clean}
 use Rattle.char_traits.specs.Chars.{breakz}
 use Rattle.input.specs.View.{View, Keeps}
 use Rattle.input.specs.Calls.{none_left, first_of, first_in_line}
-use Rattle.input.proofs.Keeping.{never, below, one_is_none}
+use Rattle.input.proofs.Keeping.{never, one_is_none}
 use Rattle.buffered.specs.declared.ring.Ring.{Ring}
 use Rattle.buffered.specs.declared.store.Store.{Store}
 use Rattle.buffered.specs.declared.buffered.BufferedInput.{BufferedInput}
@@ -15,7 +14,7 @@ use Rattle.buffered.specs.Buffered.{at_end}
 use Rattle.buffered.specs.Rings.{held_length}
 
 abbrev pub view_of : {S : Type 0} → (S → List ℕ) → Store S → ℕ → View
-view_of ahead x window = record { ahead = all_of ahead x; window = window; ending = Clean; met = x.met; told = false }
+view_of ahead x window = record { ahead = all_of ahead x; window = window; ending = clean; met = x.met; told = false }
 
 or_true : (b : Bool) → b || true ≡ true
 or_true true = refl
@@ -81,7 +80,7 @@ module _ {S : Type 0} (ahead : S → List ℕ) (kept : S → Ending) (ended : S 
           late = λ _.
               looked_next
               ∙ widen x.met (none_left (all_of ahead x)) (ltb (length (all_of ahead y)) window)
-              (λ t. let lt = below _ _ t in waits (omega (arith, ap length one.same)));
+              (λ t. let lt = ltb-true _ _ t in waits (omega (arith, ap length one.same)));
         }
 
 -- the end is seen exactly if nothing is held and the source has ended
@@ -129,7 +128,3 @@ line_break [] r c e f b = refl
 line_break (d ∷ a) r c e f b =
     let same : d ≡ c = cc in
     ap (λ (t : Bool). cond t None (Some d)) (sym (ap breakz same ∙ b))
-
-pub line_end : (a : List ℕ) (r : Option ℕ) → r ≡ first_of a → r ≡ None → None ≡ first_in_line a
-line_end [] r e f = refl
-line_end (d ∷ a) r e f = let z : ◌≡◌ {A = ℕ} 0 1 = cc in absurd (omega arith)

@@ -3,7 +3,7 @@ use Rattle.std.specs.Prelude.{◌≡◌, ℕ, ◌<◌, ◌≤◌, Bool, true, fa
 use Rattle.std.proofs.Common.{ap, arith, length-append}
 use Rattle.std.proofs.Math.Utf8.{scalars, encodes}
 use Rattle.error.specs.Limit.{text_limit}
-use Rattle.error.specs.declared.Ending.TheVariants.{Clean}
+use Rattle.error.specs.Numbers.{clean}
 use Rattle.input.specs.View.{View, Sound}
 use Rattle.input.specs.Calls.{none_left}
 use Rattle.input.specs.Held.{held_characters, held_short, held_shows}
@@ -16,7 +16,7 @@ use Rattle.buffered.specs.Rings.{held_length, scalars_held}
 
 -- what is held and, unless its end was met, what the source has; the ending is clean
 abbrev pub seen : {S : Type 0} → (S → List ℕ) → BufferedInput S → View
-seen ahead x = record { ahead = all_of ahead x.store; window = x.window; ending = Clean; met = x.store.met; told = false }
+seen ahead x = record { ahead = all_of ahead x.store; window = x.window; ending = clean; met = x.store.met; told = false }
 
 -- a ring shows what it holds, and NUL after that
 abbrev pub ring_shows : {S : Type 0} → BufferedInput S → ℕ → ℕ

@@ -2,7 +2,7 @@
 use Rattle.std.specs.Prelude.{◌≡◌, ℕ, ◌<◌, ◌≤◌, Bool, true, List, length, slice_index}
 use Rattle.std.proofs.Math.Utf8.{encodes, scalars}
 use Rattle.error.specs.Limit.{text_limit}
-use Rattle.error.specs.declared.Ending.{Ending}
+use Rattle.error.specs.Numbers.{Ending}
 use Rattle.input.specs.View.{View, Sound}
 use Rattle.buffered.specs.declared.fallible.FallibleBufferedInput.{FallibleBufferedInput}
 use Rattle.buffered.specs.Buffered.{seen, ring_shows, ring_sound, ring_faithful}

@@ -1,5 +1,6 @@
 -- A queue in sixteen places. Assumes nothing.
-use Rattle.std.specs.Prelude.{◌≡◌, ℕ, zero, suc, ◌+◌, ◌-◌, ◌%◌, ◌<◌, Bool, true, false, ◌&&◌, ◌≢◌, List, [], ◌∷◌, ◌++◌, length, slice_index, slice_set, refl}
+use Rattle.std.specs.Prelude.{◌≡◌, ℕ, zero, suc, ◌+◌, ◌-◌, ◌%◌, ◌<◌, true, ◌≢◌, List, [], ◌∷◌, ◌++◌, length, slice_index, slice_set, refl}
+use Rattle.std.proofs.lemmas.Bool.{and_from, and_parts}
 use Rattle.std.proofs.Common.{sym, ap, subst, ◌∙◌, arith, add-one, not-suc-le-zero, le_of_suc-le-suc, get_or-set_same, get_or-set_other}
 use Rattle.std.proofs.Math.Utf8.{scalar, scalars}
 use Rattle.buffered.specs.Queue.{held}
@@ -47,29 +48,11 @@ held_pop p h (suc n) l m =
     let c : suc n - 1 ≡ n = omega arith in
     (λ i. slice_index p (a i) ∷ (held_head p (suc h) ((h + 1) % 16) n b ∙ ap (λ (x : ℕ). held p ((h + 1) % 16) x) (sym c)) i)
 
-and_true : (a b : Bool) → a ≡ true → b ≡ true → (a && b) ≡ true
-and_true true b f g = g
-and_true false b f g = f
-
-fst : (a b : Bool) → (a && b) ≡ true → a ≡ true
-fst true b e = refl
-fst false b e = e
-
-snd : (a b : Bool) → (a && b) ≡ true → b ≡ true
-snd true b e = e
-snd false true e = refl
-snd false false e = e
-
-pub scalars_set : (p : List ℕ) (k c : ℕ) → scalar c ≡ true → scalars p ≡ true → scalars (slice_set p k c) ≡ true
-scalars_set [] k c a b = b
-scalars_set (x ∷ p) zero c a b = and_true (scalar c) (scalars p) a (snd (scalar x) (scalars p) b)
-scalars_set (x ∷ p) (suc k) c a b = and_true (scalar x) (scalars (slice_set p k c)) (fst (scalar x) (scalars p) b) (scalars_set p k c a (snd (scalar x) (scalars p) b))
-
 scalar_get : (p : List ℕ) (k : ℕ) → scalars p ≡ true → scalar (slice_index p k) ≡ true
 scalar_get [] k b = refl
-scalar_get (x ∷ p) zero b = fst (scalar x) (scalars p) b
-scalar_get (x ∷ p) (suc k) b = scalar_get p k (snd (scalar x) (scalars p) b)
+scalar_get (x ∷ p) zero b = (and_parts (scalar x) _ b).0
+scalar_get (x ∷ p) (suc k) b = scalar_get p k (and_parts (scalar x) _ b).1
 
 pub scalars_held : (p : List ℕ) (h n : ℕ) → scalars p ≡ true → scalars (held p h n) ≡ true
 scalars_held p h zero b = refl
-scalars_held p h (suc n) b = and_true (scalar (slice_index p (h % 16))) (scalars (held p (suc h) n)) (scalar_get p (h % 16) b) (scalars_held p (suc h) n b)
+scalars_held p h (suc n) b = and_from (scalar (slice_index p (h % 16))) (scalars (held p (suc h) n)) (scalar_get p (h % 16) b) (scalars_held p (suc h) n b)

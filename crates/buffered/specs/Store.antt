@@ -1,6 +1,6 @@
 -- A source, and what is held of it in a ring. Assumes nothing.
 use Rattle.std.specs.Prelude.{◌≡◌, ℕ, ◌<◌, ◌≤◌, Bool, true, cond, ◌||◌, List, [], ◌++◌, length, nat_lt}
-use Rattle.error.specs.declared.Ending.{Ending}
+use Rattle.error.specs.Numbers.{Ending}
 use Rattle.buffered.specs.declared.ring.Ring.{Ring}
 use Rattle.buffered.specs.declared.store.Store.{Store}
 use Rattle.buffered.specs.Queue.{held}

@@ -2,7 +2,6 @@
 
 ghost use Rattle.std.specs.Prelude.{◌≡◌, ◌<◌, true, false, None};
 ghost use Rattle.error.specs.Numbers.{outcome};
-ghost use Rattle.error.specs.declared.Ending.TheVariants.{Clean};
 ghost use Rattle.input.specs.View.{New};
 ghost use Rattle.input.specs.Calls.{none_left, Looks, Reads, ReadsInLine, Skips, Tells, Takes, Asks};
 ghost use Rattle.input.specs.Tests.{flag, mark, Matches, Marks};
@@ -14,6 +13,7 @@ use crate::ring::Ring;
 use crate::store::Store;
 use char_traits::is_breakz;
 use error::{Fault, Refusal};
+use input::shows::Shows;
 use input::{Input, Marker};
 use source::Source;
 
@@ -107,12 +107,10 @@ impl<S: Source> Input for BufferedInput<S> {
         ensures skips { Skips true count (seen S.Source.ahead self.old) (seen S.Source.ahead self.new) }
         ensures feeds { Feeds S.Source.kept S.Source.ended self.old.store self.new.store }
     {
-        let mut left = count;
-        while left > 0 {
+        for _ in 0..count {
             if self.take().is_none() {
                 return;
             }
-            left -= 1;
         }
     }
 

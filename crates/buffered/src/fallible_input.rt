@@ -24,8 +24,7 @@ impl<F: FallibleSource> FallibleBufferedInput<F> {
     {
         let chars = FallibleChars {
             below: source,
-            ended: false,
-            fault: None,
+            ended: None,
         };
         FallibleBufferedInput {
             inner: BufferedInput::new(chars),
@@ -138,7 +137,7 @@ impl<F: FallibleSource> Input for FallibleBufferedInput<F> {
 
     fn met_fault(&self) -> Option<Fault> {
         if self.inner.store.met {
-            self.inner.store.source.fault
+            self.inner.store.source.fault()
         } else {
             None
         }

@@ -1,14 +1,12 @@
 //! The ring's own methods.
 
-ghost use Rattle.std.specs.Prelude.{◌≡◌, ◌+◌, ◌<◌, [], ◌∷◌, ◌++◌, slice_index};
+ghost use Rattle.std.specs.Prelude.{◌≡◌, ◌+◌, ◌<◌, [], ◌∷◌, ◌++◌};
 ghost use Rattle.input.specs.Calls.{first_of};
-ghost use Rattle.input.specs.Tests.{found, thrice, marker_in};
 ghost use Rattle.buffered.specs.Store.{queue};
 ghost use Rattle.buffered.specs.Queue.{Pops, shows};
 
 use crate::ring::Ring;
-use char_traits::is_blank_or_breakz;
-use input::Marker;
+use input::shows::Shows;
 
 impl Ring {
     pub(crate) fn new() -> Ring
@@ -18,17 +16,6 @@ impl Ring {
             places: ['\0'; 16],
             head: 0,
             len: 0,
-        }
-    }
-
-    /// The character at a place, or NUL past the last.
-    pub(crate) fn at(&self, n: usize) -> char
-        ensures { result ≡ slice_index (queue self.now) n }
-    {
-        if n < self.len {
-            self.places[(self.head + n) % 16]
-        } else {
-            '\0'
         }
     }
 
@@ -65,37 +52,17 @@ impl Ring {
         self.len -= 1;
         Some(c)
     }
+}
 
-    /// Whether the characters from the first on are those wanted, with NUL past the last.
-    pub(crate) fn begins_with(&self, wanted: &[char]) -> bool
-        ensures { result ≡ found (shows (queue self.now)) wanted.now }
-    {
-        for n in 0..wanted.len() {
-            if self.at(n) != wanted[n] {
-                return false;
-            }
-        }
-        true
-    }
+impl Shows for Ring {
+    ghost shown = { λ r. shows (queue r) };
 
-    fn is_thrice(&self, c: char) -> bool
-        ensures { result ≡ thrice c (shows (queue self.now)) }
-    {
-        self.at(0) == c && self.at(1) == c && self.at(2) == c
-    }
-
-    /// The document marker at the front, if one is there.
-    pub(crate) fn marker(&self) -> Option<Marker>
-        ensures { result ≡ marker_in (shows (queue self.now)) }
-    {
-        if !is_blank_or_breakz(self.at(3)) {
-            None
-        } else if self.is_thrice('-') {
-            Some(Marker::Start)
-        } else if self.is_thrice('.') {
-            Some(Marker::End)
+    /// The character at a place, or NUL past the last.
+    fn at(&self, n: usize) -> char {
+        if n < self.len {
+            self.places[(self.head + n) % 16]
         } else {
-            None
+            '\0'
         }
     }
 }

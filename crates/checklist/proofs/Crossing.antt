@@ -1,8 +1,8 @@
 -- Runs within a line pass no line end. Assumes nothing.
-use Rattle.std.proofs.Common.{◌≡◌, ℕ, suc, ◌+◌, ◌≤◌, Bool, true, false, cond, not, ◌&&◌, List, [], ◌∷◌, ◌++◌, length, get_or, drop, Some, None, sym, refl, ap, ◌∙◌, arith, length-drop}
+use Rattle.std.proofs.Common.{◌≡◌, ℕ, suc, ◌+◌, ◌≤◌, Bool, true, false, cond, not, ◌&&◌, List, [], ◌∷◌, ◌++◌, length, get_or, drop, sym, refl, ap, ◌∙◌, arith, length-drop}
 use Rattle.std.proofs.lemmas.Bool.Decides.{nat_tests}
 use Rattle.char_traits.specs.Chars.{breakz, printable, not_breakz, printable_not_breakz, plain_safe}
-use Rattle.input.specs.Calls.{none_left, first_of}
+use Rattle.input.specs.Calls.{none_left}
 use Rattle.input.proofs.Keeping.{never}
 use Rattle.runs.specs.declared.SkipTabs.{SkipTabs}
 use Rattle.runs.specs.declared.SkipTabs.TheVariants.{Yes, No}
@@ -76,12 +76,3 @@ module _ (n : ℕ) (before after : List ℕ) where
 
   pub dropped_fewer : after ≡ drop n before → length after ≤ length before
   dropped_fewer e = omega (arith, ap length e ∙ length-drop n before)
-
--- one more character is taken
-pub ends_more : (c : ℕ) (a : List ℕ) → Some c ≡ first_of a → line_ends a ≡ cond (breakz c) (suc (line_ends (drop 1 a))) (line_ends (drop 1 a))
-ends_more c [] e = let z : ◌≡◌ {A = ℕ} 0 1 = cc in absurd (omega arith)
-ends_more c (d ∷ a) e = let same : d ≡ c = cc in ap (λ x. cond (breakz x) (suc (line_ends a)) (line_ends a)) same
-
-pub ends_none : (a : List ℕ) → None ≡ first_of a → line_ends a ≡ 0
-ends_none [] e = refl
-ends_none (c ∷ a) e = let z : ◌≡◌ {A = ℕ} 0 1 = cc in absurd (omega arith)

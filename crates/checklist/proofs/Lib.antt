@@ -1,3 +1,4 @@
 pub mod Crossing
-pub mod Draining
 pub mod Fronts
+pub mod Setpoints
+pub mod Starts

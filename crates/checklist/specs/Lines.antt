@@ -1,5 +1,5 @@
 -- Line ends. Assumes nothing.
-use Rattle.std.specs.Prelude.{◌≡◌, ℕ, suc, ◌-◌, ◌<◌, ◌≤◌, true, false, cond, List, [], ◌∷◌, length, Option, slice_index}
+use Rattle.std.specs.Prelude.{◌≡◌, ℕ, suc, ◌+◌, ◌<◌, ◌≤◌, Bool, true, false, cond, ◌&&◌, List, [], ◌∷◌, length, Option, ◌==◌, slice_index}
 use Rattle.char_traits.specs.Chars.{breakz, digit}
 use Rattle.input.specs.View.{View}
 use Rattle.input.specs.Calls.{first_of}
@@ -21,7 +21,15 @@ pub record DigitsEnd (bytes : List ℕ) (from end : ℕ) : Type 0 where
   pub digits : (k : ℕ) → from ≤ k → k < end → digit (slice_index bytes k) ≡ true
   pub stops : end < length bytes → digit (slice_index bytes end) ≡ false
 
--- digits after : and a space, or the end where there are none
+-- a setpoint begins at a place: a digit after : and a space
+abbrev pub setpoint_at : List ℕ → ℕ → Bool
+setpoint_at bytes at = slice_index bytes at == 0x3A && (slice_index bytes (at + 1) == 0x20 && digit (slice_index bytes (at + 2)))
+
+-- no setpoint begins before a place
+abbrev pub NoSetpoint : List ℕ → ℕ → Type 0
+NoSetpoint bytes place = (k : ℕ) → k < place → setpoint_at bytes k ≡ false
+
+-- the digits of the first setpoint, or the end where there is none
 pub data SetpointEnd (bytes : List ℕ) (end : ℕ) : Type 0 where
-  after : (from : ℕ) → slice_index bytes (from - 2) ≡ 0x3A → slice_index bytes (from - 1) ≡ 0x20 → digit (slice_index bytes from) ≡ true → DigitsEnd bytes from end → SetpointEnd bytes end
-  none : end ≡ length bytes → SetpointEnd bytes end
+  after : (place : ℕ) → NoSetpoint bytes place → setpoint_at bytes place ≡ true → DigitsEnd bytes (place + 2) end → SetpointEnd bytes end
+  none : NoSetpoint bytes (length bytes) → end ≡ length bytes → SetpointEnd bytes end

@@ -18,10 +18,9 @@ fn tells_pull(closing: Closing, place: usize) -> bool
     ensures only { result ≡ true → closed closing ≡ (8, place ∷ []) }
 {
     match closing {
-        Closing::Failed(fault) => match fault.kind {
-            FaultKind::InputIo => fault.place as usize == place,
-            FaultKind::InputDecoding => false,
-        },
+        Closing::Failed(fault) => {
+            fault.kind == FaultKind::InputIo && fault.place as usize == place
+        }
         _ => false,
     }
 }
@@ -52,9 +51,7 @@ pub fn codes_of(heap: Global, chars: &[char], most: usize) -> Result<Vec<u32>, A
     ensures { IfOk result (λ v. v.items ≡ take most chars.now) }
 {
     let mut codes = Vec::new(heap);
-    for n in 0..chars.len().min(most) {
-        codes.push(chars[n] as u32)?;
-    }
+    codes.extend(chars.iter().take(most).map(|c| *c as u32))?;
     Ok(codes)
 }
 
@@ -78,10 +75,7 @@ pub fn pull_all_over(heap: Global, codes: &[u32], every: usize) -> Result<Pulls,
     ensures everywhere { IfOk result (λ pulls. every ≤ 1 → pulls.made ≡ length codes.now + 1) }
 {
     let mut pulls = Pulls { made: 0, told: 0 };
-    for place in 0..codes.len() {
-        if place % every.max(1) != 0 {
-            continue;
-        }
+    for place in (0..codes.len()).step_by(every.max(1)) {
         let told = pull_is_told(heap, &codes[0..place])?;
         pulls = one_more(pulls, told);
     }

@@ -33,8 +33,6 @@ pub fn read_out<I: Input>(heap: Global, input: &mut I) -> Result<Taken, AllocErr
     let reading = Reading::open(input);
     let drained = drain(heap, input);
     let closing = reading.close(input);
-    match drained {
-        Ok(chars) => Ok(Taken { chars, closing }),
-        Err(e) => Err(e),
-    }
+    let chars = drained?;
+    Ok(Taken { chars, closing })
 }

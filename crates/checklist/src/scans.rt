@@ -1,9 +1,11 @@
 //! Scans at their limits: a marker at the very end, a comment glued to a value, and line ends.
 
 ghost use Rattle.std.specs.Prelude.{◌≡◌, ◌+◌, ◌<◌, ◌≤◌, ◌++◌, length, take, drop, IfOk, slice_index};
+ghost use Rattle.std.specs.List.{prefix_len};
+ghost use Rattle.char_traits.specs.Chars.{digit};
 ghost use Rattle.input.specs.Tests.{start_marker, marker_in};
 ghost use Rattle.runs.specs.Runs.{at_hash};
-ghost use Rattle.checklist.specs.Lines.{line_ends, WithinLine, DigitsEnd, SetpointEnd};
+ghost use Rattle.checklist.specs.Lines.{line_ends, WithinLine, DigitsEnd, setpoint_at, SetpointEnd};
 
 use char_traits::is_breakz;
 use input::calls::next_is_document_start;
@@ -17,10 +19,7 @@ pub fn finds_start<I: Scan>(input: &mut I, place: usize) -> bool
 {
     input.skip_n(place);
     input.lookahead(4);
-    match next_is_document_start(input) {
-        Ok(found) => found,
-        Err(_) => false,
-    }
+    next_is_document_start(input).unwrap_or(false)
 }
 
 /// Whether a `#` after so many characters is not skipped as a comment, since it is glued to what stands before it.
@@ -56,29 +55,37 @@ pub fn count_line_ends<I: Scan>(input: &mut I) -> usize
     count
 }
 
+fn digits_len(bytes: &[u8]) -> usize
+    ensures len { result ≡ prefix_len digit bytes.now }
+    ensures within { result ≤ length bytes.now }
+{
+    bytes.iter().take_while(|b| b.is_ascii_digit()).count()
+}
+
 /// The place after the digits that stand at a place.
 fn digits_end(bytes: &[u8], from: usize) -> usize
     requires { from ≤ length bytes.now }
     ensures ends { DigitsEnd bytes.now from result }
     ensures after { from ≤ result }
 {
-    let mut end = from;
-    while end < bytes.len() && bytes[end].is_ascii_digit() {
-        end += 1;
-    }
-    end
+    from + digits_len(&bytes[from..])
 }
 
-/// The place after the first setpoint, a number that follows `: `, or the end.
+/// Whether some bytes begin with a setpoint, a number that follows `: `.
+fn begins_setpoint(bytes: &[u8]) -> bool
+    ensures { result ≡ setpoint_at bytes.now 0 }
+{
+    matches!(bytes, [b':', b' ', digit, ..] if digit.is_ascii_digit())
+}
+
+/// The place after the first setpoint, or the end.
 pub fn setpoint_end(bytes: &[u8]) -> usize
     ensures { SetpointEnd bytes.now result }
 {
-    for from in 2..bytes.len() {
-        if bytes[from - 2] == b':' && bytes[from - 1] == b' ' && bytes[from].is_ascii_digit() {
-            return digits_end(bytes, from);
-        }
+    match bytes.windows(3).position(|w| begins_setpoint(w)) {
+        Some(place) => digits_end(bytes, place + 2),
+        None => bytes.len(),
     }
-    bytes.len()
 }
 
 /// Bytes put between two parts of others.

@@ -3,8 +3,6 @@ use Rattle.std.specs.Prelude.{ℕ, List, [], ◌∷◌, Some, None, Ok, Err, Opt
 use Rattle.error.specs.declared.FaultKind.{FaultKind}
 use Rattle.error.specs.declared.FaultKind.TheVariants.{InputIo, InputDecoding}
 use Rattle.error.specs.declared.Fault.{Fault}
-use Rattle.error.specs.declared.Ending.{Ending}
-use Rattle.error.specs.declared.Ending.TheVariants.{Clean, Faulty}
 use Rattle.error.specs.declared.Refusal.{Refusal}
 use Rattle.error.specs.declared.Refusal.TheVariants.{TooLong, IllFormed, NotACharacter, NarrowWindow, CommentNotSeparated, BeyondRoom, RoomFull, Source}
 
@@ -27,14 +25,21 @@ number BeyondRoom = (6, [])
 number RoomFull = (7, [])
 number (Source fault) = fault_number fault
 
+-- how a source ends: clean, or with a fault
+abbrev pub Ending : Type 0
+Ending = Result (Unit {0}) Fault
+
+abbrev pub clean : Ending
+clean = Ok tt
+
 abbrev pub fault_of : Ending → Option Fault
-fault_of Clean = None
-fault_of (Faulty fault) = Some fault
+fault_of (Ok done) = None
+fault_of (Err fault) = Some fault
 
 -- a clean ending has the number 0
 abbrev pub ending_number : Ending → ℕ × List ℕ
-ending_number Clean = (0, [])
-ending_number (Faulty fault) = fault_number fault
+ending_number (Ok done) = (0, [])
+ending_number (Err fault) = fault_number fault
 
 -- an answer that may be refused: 0 where it is not, with what `given` says of it
 abbrev pub outcome : {T : Type 0} → (T → List ℕ) → Result T Refusal → ℕ × List ℕ

@@ -4,7 +4,7 @@
 ghost use Rattle.std.specs.Prelude.{◌≡◌, Some, nat_lt};
 ghost use Rattle.std.specs.Option.{option_to_list};
 ghost use Rattle.error.specs.Limit.{text_limit};
-ghost use Rattle.error.specs.Numbers.{kind_number, fault_of, number};
+ghost use Rattle.error.specs.Numbers.{kind_number, number};
 ghost use Rattle.error.specs.Messages.{kind_words, words, message};
 
 use std::fmt;
@@ -57,24 +57,8 @@ pub struct Fault {
     pub place: Place,
 }
 
-/// How a source ends.
-#[derive(Clone, Copy)]
-pub enum Ending {
-    Clean,
-    Faulty(Fault),
-}
-
-impl Ending {
-    /// The fault, if it is one.
-    pub fn fault(self) -> Option<Fault>
-        ensures { result ≡ fault_of self }
-    {
-        match self {
-            Ending::Clean => None,
-            Ending::Faulty(fault) => Some(fault),
-        }
-    }
-}
+/// How a source ends: clean, or with a fault.
+pub type Ending = Result<(), Fault>;
 
 /// Why the reader says no.
 #[derive(Clone, Copy, Debug, PartialEq, Eq)]

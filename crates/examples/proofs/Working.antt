@@ -1,9 +1,8 @@
 -- The worked examples are computed. Assumes nothing.
-use Rattle.std.proofs.Common.{◌≡◌, ℕ, ◌+◌, ◌-◌, ◌<◌, Bool, true, false, cond, not, ◌&&◌, ◌||◌, ltb, List, [], ◌∷◌, ◌++◌, length, get_or, take, drop, is_some, Some, None, codes, refl, ap, ◌∙◌, arith}
+use Rattle.std.proofs.Common.{◌≡◌, ℕ, ◌+◌, ◌-◌, ◌<◌, Bool, true, false, cond, not, ◌&&◌, ◌||◌, ltb, List, [], ◌∷◌, ◌++◌, length, get_or, take, drop, is_some, Some, None, codes, refl, ap, ◌∙◌, arith, Err}
 use lib.Utf8.{encode, encodes}
 use Rattle.std.proofs.lemmas.Str.{encode_ascii, length-encode}
 use Rattle.error.specs.Numbers.{fault_of}
-use Rattle.error.specs.declared.Ending.TheVariants.{Faulty}
 use Rattle.char_traits.specs.Chars.{yaml_non_space}
 use Rattle.utf8.specs.Room.{laid}
 use Rattle.input.specs.Tests.{flag, start_marker, marker_in, narrow, marked}
@@ -72,7 +71,7 @@ told most one two three v a b c d e big new ahead ending l1 a1 l2 a2 a3 =
     let ma : a.met ≡ false =
     l1.keeps.late refl ∙ (λ t. new.unmet refl t || (false || ltb (length (va t)) (wa t))) in
     let ta : a.told ≡ false = l1.told ∙ new.untold in
-    let ea : a.ending ≡ Faulty pulled = l1.keeps.ending ∙ ending in
+    let ea : a.ending ≡ Err pulled = l1.keeps.ending ∙ ending in
     let none : one ≡ None = a1.fault ∙ (λ t. cond (ma t && not a.told) (fault_of a.ending) None) in
     let vb : b.ahead ≡ codes "ab" = a1.ahead ∙ va in
     let wb : b.window ≡ 2 = (let n = a1.keeps.narrow refl in omega arith) in
@@ -82,7 +81,7 @@ told most one two three v a b c d e big new ahead ending l1 a1 l2 a2 a3 =
     let met : (m : Bool) → m || (false || true) ≡ true = λ m. elim m as (λ x. x || (false || true) ≡ true) [ true ↦ refl | false ↦ refl ] in
     let mc : c.met ≡ true = l2.keeps.late refl ∙ (λ t. b.met || (false || ltb (length (vc t)) (wc t))) ∙ met b.met in
     let tc : c.told ≡ false = l2.told ∙ tb in
-    let ec : c.ending ≡ Faulty pulled = l2.keeps.ending ∙ a1.keeps.ending ∙ ea in
+    let ec : c.ending ≡ Err pulled = l2.keeps.ending ∙ a1.keeps.ending ∙ ea in
     let some : two ≡ Some pulled = a2.fault ∙ (λ t. cond (mc t && not (tc t)) (fault_of (ec t)) None) in
     let td : d.told ≡ true = a2.told ∙ (λ t. tc t || is_some (some t)) in
     let md : d.met ≡ true = a2.keeps.stays mc in

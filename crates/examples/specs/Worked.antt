@@ -1,9 +1,8 @@
 -- The ten worked examples, each of every kind of input with these characters ahead. Assumes nothing.
-use Rattle.std.specs.Prelude.{◌≡◌, ℕ, ◌≤◌, Bool, true, false, List, [], ◌∷◌, ◌++◌, drop, Some, None, codes, Option, Result, slice_index}
+use Rattle.std.specs.Prelude.{◌≡◌, ℕ, ◌≤◌, Bool, true, false, List, [], ◌∷◌, ◌++◌, drop, Some, None, codes, Option, Result, slice_index, Err}
 use Rattle.error.specs.Numbers.{outcome}
 use Rattle.error.specs.declared.Fault.{Fault}
 use Rattle.error.specs.declared.FaultKind.TheVariants.{InputIo}
-use Rattle.error.specs.declared.Ending.TheVariants.{Faulty}
 use Rattle.error.specs.declared.Refusal.{Refusal}
 use Rattle.char_traits.specs.Chars.{yaml_non_space}
 use Rattle.input.specs.View.{View, New}
@@ -54,7 +53,7 @@ pulled = record { kind = InputIo; place = 2 }
 -- ab and then a pulled cable, through a ring: lookahead 2, an asking, lookahead 3, two askings
 abbrev pub ToldOnce : Type 0
 ToldOnce =
-    (most : ℕ) (one two three : Option Fault) (v a b c d e : View) → 16 ≤ most → New true v → v.ahead ≡ codes "ab" → v.ending ≡ Faulty pulled
+    (most : ℕ) (one two three : Option Fault) (v a b c d e : View) → 16 ≤ most → New true v → v.ahead ≡ codes "ab" → v.ending ≡ Err pulled
     → Looks true most 2 v a → Asks true one a b → Looks true most 3 b c → Asks true two c d → Asks true three d e
     → (one ≡ None) × (two ≡ Some pulled) × (three ≡ None)
 

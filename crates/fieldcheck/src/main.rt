@@ -7,7 +7,7 @@ use buffered::fallible::FallibleBufferedInput;
 use checklist::pulls::{codes_of, pull_all_over};
 use checklist::readings::read_out;
 use error::Refusal;
-use listing::{cut_line, drawn_line};
+use listing::{drawn_line, split_line};
 use program::CONE_SIX;
 use source::bytes::ByteChars;
 use std::alloc::AllocError;
@@ -63,17 +63,15 @@ fn print_lines(rt: &HostRuntime, card: &[char], cable: &[char]) -> Result<Compar
         lines: 0,
         differ: 0,
     };
-    let mut at = 0;
-    let mut beside = 0;
-    while at < card.len() || beside < cable.len() {
-        let one = cut_line(&card[at..]);
-        let other = cut_line(&cable[beside..]);
-        let by_card = &card[at..at + one.len];
-        let by_cable = &cable[beside..beside + other.len];
+    let mut card = card;
+    let mut cable = cable;
+    while !card.is_empty() || !cable.is_empty() {
+        let (by_card, card_after) = split_line(card);
+        let (by_cable, cable_after) = split_line(cable);
         compared.lines = compared.lines.saturating_add(1);
         let line = compared.lines;
-        let count = one.len;
-        let count_beside = other.len;
+        let count = by_card.len();
+        let count_beside = by_cable.len();
         let text = drawn_line(heap, by_card)?;
         if by_card == by_cable {
             println!(rt; "{line:>4} {count:>4} {count_beside:>5} = {text}")?;
@@ -83,8 +81,8 @@ fn print_lines(rt: &HostRuntime, card: &[char], cable: &[char]) -> Result<Compar
             println!(rt; "{line:>4} {count:>4}       ! {text}")?;
             println!(rt; "{line:>4}      {count_beside:>5} ! {text_beside}")?;
         }
-        at += one.whole;
-        beside += other.whole;
+        card = card_after;
+        cable = cable_after;
     }
     Ok(compared)
 }

@@ -1,28 +1,11 @@
 -- One call after another. Assumes nothing.
-use Rattle.std.proofs.Common.{◌≡◌, ℕ, ◌<◌, ◌≤◌, Bool, true, false, ◌||◌, T, ltb, List, [], ◌∷◌, length, sym, refl, ap, ◌∙◌, subst, arith, ltb→lt, lt→ltb}
+use Rattle.std.proofs.Common.{◌≡◌, ℕ, ◌≤◌, Bool, true, false, ◌||◌, ltb, List, [], ◌∷◌, length, sym, refl, ap, ◌∙◌, arith, ltb-true, lt-ltb, le-ltb}
+use Rattle.std.proofs.lemmas.Bool.{both_ways}
 use Rattle.input.specs.View.{View, Sound, Keeps}
 use Rattle.input.specs.Calls.{none_left}
 
 pub never : false ≡ true → ⊥
-never e = let z : ◌≡◌ {A = ℕ} 0 1 = cc in omega arith
-
-pub is_false : (b : Bool) → (b ≡ true → ⊥) → b ≡ false
-is_false true h = absurd (h refl)
-is_false false h = refl
-
--- a test of numbers as a fact, and a fact as a test
-pub below : (a b : ℕ) → ltb a b ≡ true → a < b
-below a b e = ltb→lt a b (subst T (sym e) tt)
-
-is_true : (b : Bool) → T b → b ≡ true
-is_true true t = refl
-is_true false t = absurd t
-
-pub is_below : (a b : ℕ) → a < b → ltb a b ≡ true
-is_below a b h = is_true (ltb a b) (lt→ltb a b h)
-
-pub not_below : (a b : ℕ) → b ≤ a → ltb a b ≡ false
-not_below a b h = is_false (ltb a b) (λ t. let lt = below a b t in omega arith)
+never = both_ways false refl
 
 -- an input that stands still keeps what every call keeps
 pub still : (prompt : Bool) (v : View) → Sound v → Keeps prompt false 0 v v
@@ -33,7 +16,7 @@ still prompt v s =
       stays = λ h. h;
       meets = λ h. absurd (never h);
       narrow = λ _. omega arith;
-      late = λ _. late v.met (ltb (length v.ahead) v.window) (λ h. s.waits (below _ _ h));
+      late = λ _. late v.met (ltb (length v.ahead) v.window) (λ h. s.waits (ltb-true _ _ h));
     }
   where
     late : (m b : Bool) → (b ≡ true → m ≡ true) → m ≡ (m || (false || b))
@@ -54,7 +37,7 @@ both prompt finds asks v u w h f g =
       late = λ k.
           g.late k ∙ ap (λ (b : Bool). b || (finds || ltb (length w.ahead) w.window)) (f.late k)
           ∙ join v.met (ltb (length u.ahead) u.window) finds (ltb (length w.ahead) w.window)
-          (λ t. let lt = below _ _ t in is_below _ _ (omega (arith, g.window)));
+          (λ t. let lt = ltb-true _ _ t in lt-ltb _ _ (omega (arith, g.window)));
     }
   where
     join : (m x e y : Bool) → (x ≡ true → y ≡ true) → (m || (false || x)) || (e || y) ≡ m || (e || y)
@@ -69,4 +52,4 @@ none_is (c ∷ cs) e = absurd (never e)
 
 pub one_is_none : (a : List ℕ) → ltb (length a) 1 ≡ none_left a
 one_is_none [] = refl
-one_is_none (c ∷ cs) = not_below (length (c ∷ cs)) 1 (omega arith)
+one_is_none (c ∷ cs) = le-ltb (length (c ∷ cs)) 1 (omega arith)

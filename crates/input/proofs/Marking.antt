@@ -30,7 +30,3 @@ pub marker_told : (which : Option Marker → Bool) (window : ℕ) (shown ahead :
 marker_told which window shown ahead is wide same (narrow h e) = absurd (omega arith)
 marker_told which window shown ahead is wide same (marked e) =
     flag_same is (which (marker_in shown)) (ap (λ (a : ℕ × List ℕ). a.1) e) ∙ ap which (marker_same shown ahead same)
-
-pub marker_unrefused : (which : Option Marker → Bool) (window : ℕ) (shown : ℕ → ℕ) (number : ℕ) (values : List ℕ) → 4 ≤ window → 0 < number → IsMarker which window shown (number, values) → ⊥
-marker_unrefused which window shown number values wide some (narrow h e) = omega arith
-marker_unrefused which window shown number values wide some (marked e) = omega (arith, ap (λ (a : ℕ × List ℕ). a.0) e)

@@ -1,9 +1,7 @@
 -- What each call of an input means: the input before it, v, its answer, and the input after it, w. Assumes nothing.
-use Rattle.std.specs.Prelude.{◌≡◌, ℕ, ◌≤◌, min, Bool, true, false, cond, not, ◌&&◌, ◌||◌, List, [], ◌∷◌, length, drop, is_some, Some, None, Option, nat_lt, slice_index}
-use Rattle.error.specs.Numbers.{fault_number, fault_of}
+use Rattle.std.specs.Prelude.{◌≡◌, ℕ, ◌≤◌, min, Bool, true, false, cond, not, ◌&&◌, ◌||◌, List, [], ◌∷◌, length, drop, is_some, Ok, Err, Some, None, Option, nat_lt, slice_index}
+use Rattle.error.specs.Numbers.{Ending, fault_number, fault_of}
 use Rattle.error.specs.declared.Fault.{Fault}
-use Rattle.error.specs.declared.Ending.{Ending}
-use Rattle.error.specs.declared.Ending.TheVariants.{Clean, Faulty}
 use Rattle.char_traits.specs.Chars.{breakz}
 use Rattle.input.specs.View.{View, Keeps}
 use Rattle.input.specs.declared.Closing.{Closing}
@@ -78,8 +76,8 @@ closed (Failed fault) = fault_number fault
 
 -- left if characters are ahead, else failed at a fault, else whole
 abbrev pub closing_at : Ending → Closing
-closing_at Clean = Whole
-closing_at (Faulty fault) = Failed fault
+closing_at (Ok done) = Whole
+closing_at (Err fault) = Failed fault
 
 abbrev pub closing_of : List ℕ → Ending → Closing
 closing_of ahead ending = cond (none_left ahead) (closing_at ending) Left
@@ -88,3 +86,8 @@ closing_of ahead ending = cond (none_left ahead) (closing_at ending) Left
 pub record Closes (prompt : Bool) (most : ℕ) (r : Closing) (v w : View) : Type 0 where
   pub looks : Looks prompt most 1 v w
   pub closing : closed r ≡ closed (closing_of v.ahead v.ending)
+
+-- a reading that may be open is closed if it is; else nothing changes
+abbrev pub ClosesHeld : Bool → ℕ → Option Closing → View → View → Type 0
+ClosesHeld prompt most None v w = w ≡ v
+ClosesHeld prompt most (Some r) v w = Closes prompt most r v w

@@ -1,5 +1,6 @@
 -- Characters held beside those that are still to come. Assumes nothing.
-use Rattle.std.specs.Prelude.{◌≡◌, ℕ, ◌+◌, ◌*◌, ◌<◌, ◌≤◌, Bool, true, false, ◌&&◌, ◌⊎◌, List, [], ◌∷◌, ◌++◌, length, slice_index}
+use Rattle.std.specs.Prelude.{◌≡◌, ℕ, zero, suc, ◌+◌, ◌*◌, ◌<◌, ◌≤◌, true, ◌⊎◌, List, [], ◌∷◌, ◌++◌, length, take, slice_index, slice_set, refl}
+use Rattle.std.proofs.lemmas.Bool.{and_from, and_parts}
 use Rattle.std.proofs.Common.{sym, ap, ◌∙◌, inl, inr, ⊎_elim, arith, length-append}
 use Rattle.std.proofs.Math.Decide.{dec_lt}
 use Rattle.std.proofs.Math.ListN.{get_or-append, get_or-eq_default}
@@ -7,13 +8,19 @@ use Rattle.std.proofs.Math.Utf8.{scalar, scalars, encode, encodes}
 use Rattle.std.proofs.lemmas.Str.{encodes-append, length-encode, len_utf8_bounds}
 use Rattle.error.specs.Limit.{text_limit}
 
-and_then : (x y z : Bool) → x && y ≡ true → (y ≡ true → z ≡ true) → x && z ≡ true
-and_then true y z e h = h e
-and_then false y z e h = e
-
 pub held_characters : (held come : List ℕ) → scalars held ≡ true → scalars come ≡ true → scalars (held ++ come) ≡ true
 held_characters [] come f g = g
-held_characters (c ∷ held) come f g = and_then (scalar c) (scalars held) (scalars (held ++ come)) f (λ h. held_characters held come h g)
+held_characters (c ∷ held) come f g = let p = and_parts (scalar c) _ f in and_from (scalar c) _ p.0 (held_characters held come p.1 g)
+
+pub scalars_take : (n : ℕ) (cs : List ℕ) → scalars cs ≡ true → scalars (take n cs) ≡ true
+scalars_take zero cs f = refl
+scalars_take (suc n) [] f = refl
+scalars_take (suc n) (c ∷ cs) f = let p = and_parts (scalar c) _ f in and_from (scalar c) _ p.0 (scalars_take n cs p.1)
+
+pub scalars_set : (cs : List ℕ) (k c : ℕ) → scalar c ≡ true → scalars cs ≡ true → scalars (slice_set cs k c) ≡ true
+scalars_set [] k c s f = f
+scalars_set (x ∷ cs) zero c s f = and_from (scalar c) _ s (and_parts (scalar x) _ f).1
+scalars_set (x ∷ cs) (suc k) c s f = let p = and_parts (scalar x) _ f in and_from (scalar x) _ p.0 (scalars_set cs k c s p.1)
 
 -- four bytes each at most
 pub fours : (cs : List ℕ) → length (encodes cs) ≤ 4 * length cs

@@ -2,7 +2,7 @@
 use Rattle.std.specs.Prelude.{◌≡◌, ℕ, ◌+◌, ◌<◌, ◌≤◌, min, max, Bool, true, false, ◌||◌, List, length, nat_lt}
 use Rattle.std.proofs.Math.Utf8.{encodes, scalars}
 use Rattle.error.specs.Limit.{text_limit}
-use Rattle.error.specs.declared.Ending.{Ending}
+use Rattle.error.specs.Numbers.{Ending}
 
 -- the characters ahead, the window, the ending, whether it is met, and whether its fault was told
 pub record View : Type 0 where

@@ -103,10 +103,7 @@ pub fn next_can_be_plain_scalar<I: Input>(input: &I, in_flow: bool) -> bool
 fn character(code: u32) -> Result<char, Refusal>
     ensures { Characters code result }
 {
-    match char::from_u32(code) {
-        Some(c) => Ok(c),
-        None => Err(Refusal::NotACharacter),
-    }
+    char::from_u32(code).ok_or(Refusal::NotACharacter)
 }
 
 /// Whether the character at a place is the one of this number.
@@ -144,31 +141,19 @@ pub fn next_3_are<I: Input>(input: &I, first: u32, second: u32, third: u32) -> R
 pub fn next_is_document_indicator<I: Input>(input: &I) -> Result<bool, Refusal>
     ensures { IsMarker any_marker (I.Input.view input.now).window (I.Input.shown input.now) (outcome flag result) }
 {
-    match input.next_marker() {
-        Ok(Some(_)) => Ok(true),
-        Ok(None) => Ok(false),
-        Err(refusal) => Err(refusal),
-    }
+    Ok(input.next_marker()?.is_some())
 }
 
 /// Whether `---` is next as a document marker.
 pub fn next_is_document_start<I: Input>(input: &I) -> Result<bool, Refusal>
     ensures { IsMarker start_marker (I.Input.view input.now).window (I.Input.shown input.now) (outcome flag result) }
 {
-    match input.next_marker() {
-        Ok(Some(Marker::Start)) => Ok(true),
-        Ok(_) => Ok(false),
-        Err(refusal) => Err(refusal),
-    }
+    Ok(matches!(input.next_marker()?, Some(Marker::Start)))
 }
 
 /// Whether `...` is next as a document marker.
 pub fn next_is_document_end<I: Input>(input: &I) -> Result<bool, Refusal>
     ensures { IsMarker end_marker (I.Input.view input.now).window (I.Input.shown input.now) (outcome flag result) }
 {
-    match input.next_marker() {
-        Ok(Some(Marker::End)) => Ok(true),
-        Ok(_) => Ok(false),
-        Err(refusal) => Err(refusal),
-    }
+    Ok(matches!(input.next_marker()?, Some(Marker::End)))
 }

@@ -11,10 +11,11 @@ use error::{Fault, Refusal};
 
 pub mod borrowed;
 pub mod calls;
+pub mod shows;
 pub mod ticket;
 
 /// The end of a reading.
-#[derive(Clone, Copy)]
+#[derive(Clone, Copy, Debug, PartialEq, Eq)]
 pub enum Closing {
     /// Characters are ahead.
     Left,

@@ -1,6 +1,7 @@
 //! A reading is opened and must be closed: its ticket is no value that can be let go.
 
-ghost use Rattle.input.specs.Calls.{Closes};
+ghost use Rattle.std.specs.Prelude.{◌≡◌, is_some};
+ghost use Rattle.input.specs.Calls.{Closes, ClosesHeld};
 
 use crate::{Closing, Input};
 
@@ -28,5 +29,23 @@ impl Reading {
             Some(fault) => Closing::Failed(fault),
             None => Closing::Whole,
         }
+    }
+
+    /// Closes the reading that is open, if one is.
+    pub fn close_held<I: Input>(held: Option<Reading>, input: &mut I) -> Option<Closing>
+        ensures closes { ClosesHeld I.Input.prompt I.Input.most result (I.Input.view input.old) (I.Input.view input.new) }
+        ensures held { is_some result ≡ is_some held }
+    {
+        match held {
+            Some(reading) => Some(reading.close(input)),
+            None => None,
+        }
+    }
+
+    /// Closes the reading that is open; where none is, one is opened for it.
+    pub fn close_opened<I: Input>(held: Option<Reading>, input: &mut I) -> Closing
+        ensures { Closes I.Input.prompt I.Input.most result (I.Input.view input.old) (I.Input.view input.new) }
+    {
+        held.unwrap_or_else(|| Reading::open(input)).close(input)
     }
 }

@@ -1,5 +1,5 @@
 -- The lines of a text. Assumes nothing.
-use Rattle.std.specs.Prelude.{◌≡◌, ℕ, ◌+◌, ◌<◌, ◌≤◌, true, false, cond, ◌&&◌, List, [], ◌∷◌, length, drop, ◌==◌, slice_index}
+use Rattle.std.specs.Prelude.{◌≡◌, ℕ, ◌+◌, ◌<◌, ◌≤◌, true, false, cond, ◌&&◌, List, [], ◌∷◌, length, take, drop, ◌==◌, slice_index}
 use Rattle.char_traits.specs.Chars.{line_break, printable}
 
 -- b-break: carriage return and line feed together, or one of them alone; 0 where no break stands
@@ -16,6 +16,13 @@ pub record Cuts (chars : List ℕ) (len whole : ℕ) : Type 0 where
   pub with_break : whole ≡ len + break_width (drop len chars)
   pub inside : whole ≤ length chars
   pub moves : 0 < length chars → 0 < whole
+
+-- a line's characters, and what stands after its break
+pub record Splits (chars line rest : List ℕ) : Type 0 where
+  pub whole : ℕ
+  pub cuts : Cuts chars (length line) whole
+  pub line_is : line ≡ take (length line) chars
+  pub rest_is : rest ≡ drop whole chars
 
 -- what a panel may draw: a printable character as it is, any other as the replacement character
 abbrev pub drawn : ℕ → ℕ

@@ -1,9 +1,11 @@
 //! A program as lines of characters.
 #![tactic(auto)]
 
-ghost use Rattle.std.specs.Prelude.{◌≡◌, map, IfOk, string_bytes};
+ghost use Rattle.std.specs.Prelude.{◌≡◌, ◌≤◌, length, map, IfOk, string_bytes};
+ghost use Rattle.std.specs.List.{position_or_len};
 ghost use Rattle.std.proofs.Math.Utf8.{encodes};
-ghost use Rattle.listing.specs.Lines.{break_width, Cuts, drawn};
+ghost use Rattle.char_traits.specs.Chars.{line_break};
+ghost use Rattle.listing.specs.Lines.{break_width, Cuts, Splits, drawn};
 
 use char_traits::{is_break, is_printable};
 use std::alloc::{AllocError, Global};
@@ -25,18 +27,31 @@ fn width_of_break(rest: &[char]) -> usize
     }
 }
 
+/// How many characters stand before the first break.
+fn len_of_line(chars: &[char]) -> usize
+    ensures len { result ≡ position_or_len line_break chars.now }
+    ensures within { result ≤ length chars.now }
+{
+    chars.iter().take_while(|c| !is_break(**c)).count()
+}
+
 /// The first line of some characters.
 pub fn cut_line(chars: &[char]) -> Cut
     ensures { Cuts chars.now result.len result.whole }
 {
-    let mut len = 0;
-    while len < chars.len() && !is_break(chars[len]) {
-        len += 1;
-    }
+    let len = len_of_line(chars);
     Cut {
         len,
         whole: len + width_of_break(&chars[len..]),
     }
+}
+
+/// The first line of some characters, and what stands after its break.
+pub fn split_line(chars: &[char]) -> (&[char], &[char])
+    ensures { Splits chars.now result.0.now result.1.now }
+{
+    let cut = cut_line(chars);
+    (&chars[..cut.len], &chars[cut.whole..])
 }
 
 fn drawn_char(c: char) -> char

@@ -1,6 +1,9 @@
 -- The predicate of each name. Assumes nothing.
-use Rattle.std.specs.Prelude.{ℕ, Bool}
+use Rattle.std.specs.Prelude.{◌≡◌, ℕ, Bool}
+use Rattle.std.specs.Char.{IsScalar}
+use Rattle.error.specs.declared.Refusal.TheVariants.{NotACharacter}
 use Rattle.char_traits.specs.Chars.{z, line_break, breakz, blank, blank_or_breakz, digit, alpha, hex, flow, bom, yaml_non_break, printable, yaml_non_space, anchor, word, uri, tag}
+use Rattle.protocol.specs.declared.answer.Answer.{Answer}
 use Rattle.protocol.specs.declared.names.Class.{Class}
 use Rattle.protocol.specs.declared.names.Production.{Production}
 
@@ -24,3 +27,7 @@ production_of Production.Anchor = anchor
 production_of Production.Word = word
 production_of Production.Uri = uri
 production_of Production.Tag = tag
+
+-- whether a class holds the character of a code, or that the code is no character's
+abbrev pub AnswersClass : (ℕ → Bool) → ℕ → Answer → Type 0
+AnswersClass holds code answer = (IsScalar code → answer ≡ Answer.Truth (holds code)) × ((IsScalar code → ⊥) → answer ≡ Answer.Refused NotACharacter)

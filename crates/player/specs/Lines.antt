@@ -1,5 +1,6 @@
 -- Lines of a text. Assumes nothing.
-use Rattle.std.specs.Prelude.{◌≡◌, ℕ, ◌+◌, ◌<◌, ◌≤◌, List, length, ◌≢◌, slice_index}
+use Rattle.std.specs.Prelude.{◌≡◌, ℕ, ◌+◌, ◌<◌, ◌≤◌, List, [], length, take, drop, Some, None, Option, ◌≢◌, slice_index}
+use Rattle.std.specs.Borrow.{Bor}
 
 -- A line from a place of a text: up to its first line feed, which belongs to no line, or to the end.
 pub record LineFrom (text : List ℕ) (from end next : ℕ) : Type 0 where
@@ -8,3 +9,18 @@ pub record LineFrom (text : List ℕ) (from end next : ℕ) : Type 0 where
   pub unbroken : (k : ℕ) → from ≤ k → k < end → slice_index text k ≢ 10
   pub ends : end < length text → (slice_index text end ≡ 10) × (next ≡ end + 1)
   pub last : end ≡ length text → next ≡ end
+
+-- the first line feed of a text, if there is one
+abbrev pub IsLineFeed : List ℕ → Option ℕ → Type 0
+IsLineFeed text None = (k : ℕ) → k < length text → slice_index text k ≢ 10
+IsLineFeed text (Some end) = (end < length text) × (slice_index text end ≡ 10) × ((k : ℕ) → k < end → slice_index text k ≢ 10)
+
+-- the first line of a text is taken, and what is after it is left, or there is no line in an empty text
+abbrev pub TakesLine : List ℕ → Option (Bor (List ℕ)) → List ℕ → Type 0
+TakesLine text None rest = (text ≡ []) × (rest ≡ [])
+TakesLine text (Some line) rest = (0 < length text) × (next : ℕ) × LineFrom text 0 (length line.now) next × (line.now ≡ take (length line.now) text) × (rest ≡ drop next text)
+
+-- where a new input is asked for, its line is one of the text's, and what is after it is left; else nothing is left
+abbrev pub Leaves : List ℕ → Option (Bor (List ℕ)) → List ℕ → Type 0
+Leaves text None rest = rest ≡ []
+Leaves text (Some line) rest = (n : ℕ) × TakesLine (drop n text) (Some line) rest

@@ -1,5 +1,5 @@
 -- What each call and its answer say of the input before it, v, and after it, w. Assumes nothing.
-use Rattle.std.specs.Prelude.{◌≡◌, ℕ, ◌<◌, ◌≤◌, Bool, true, false, ◌||◌, List, [], ◌∷◌, ◌++◌, length, Some, None, Ok, Err, codes, Option, Result, ◌==◌, slice_index, slice_range}
+use Rattle.std.specs.Prelude.{◌≡◌, ℕ, ◌<◌, ◌≤◌, Bool, true, ◌||◌, List, [], ◌∷◌, ◌++◌, length, Some, None, Ok, Err, codes, Option, Result, ◌==◌, slice_index, slice_range}
 use Rattle.error.specs.Numbers.{outcome}
 use Rattle.error.specs.declared.Fault.{Fault}
 use Rattle.error.specs.declared.Refusal.{Refusal}
@@ -9,12 +9,10 @@ use Rattle.input.specs.View.{View}
 use Rattle.input.specs.Calls.{none_left, Looks, Reads, ReadsInLine, Skips, Tells, Asks, Closes}
 use Rattle.input.specs.Tests.{flag, Compares, ComparesAll, IsMarker, any_marker, start_marker, end_marker, plain_goes_on}
 use Rattle.runs.specs.declared.Fetched.{Fetched}
-use Rattle.runs.specs.declared.SkipTabs.{SkipTabs}
-use Rattle.runs.specs.declared.SkipTabs.TheVariants.{Yes, No}
 use Rattle.runs.specs.declared.WhitespaceResult.{WhitespaceResult}
 use Rattle.runs.specs.Runs.{run_of, plain_run}
 use Rattle.runs.specs.Scans.{scan_asks, Skims, Fetches, SkipsChunk, FetchesChunk, SkipsBlanks, SkipsToEol}
-use Rattle.protocol.specs.Answers.{answer_text, fetched_text}
+use Rattle.protocol.specs.Answers.{answer_text, fetched_text, tested}
 use Rattle.protocol.specs.Digits.{bytes_text}
 use Rattle.protocol.specs.declared.answer.Answer.{Answer}
 use Rattle.protocol.specs.declared.names.Step.{Step}
@@ -42,11 +40,6 @@ Counts prompt most shown Counted.Lookahead n a v w = (a ≡ Answer.Done) × Look
 Counts prompt most shown Counted.SkipN n a v w = (a ≡ Answer.Done) × Skips prompt n v w
 Counts prompt most shown Counted.PeekNth n a v w = (a ≡ Answer.Next (Some (shown n))) × (w ≡ v)
 
--- a test's answer, or its refusal
-abbrev pub tested : Result Bool Refusal → Answer
-tested (Ok truth) = Answer.Truth truth
-tested (Err refusal) = Answer.Refused refusal
-
 -- by the characters that are shown
 abbrev pub Tests : (ℕ → ℕ) → View → Test → Answer → Type 0
 Tests shown v Test.Indicator a = (r : Result Bool Refusal) × (a ≡ tested r) × IsMarker any_marker v.window shown (outcome flag r)
@@ -68,10 +61,6 @@ Comparing shown v (Comparison.Nth n code) answer = Compares code (shown n) answe
 Comparing shown v (Comparison.Two a b) answer = ComparesAll (a ∷ b ∷ []) v.window shown answer
 Comparing shown v (Comparison.Three a b c) answer = ComparesAll (a ∷ b ∷ c ∷ []) v.window shown answer
 
-abbrev pub tabs_of : Bool → SkipTabs
-tabs_of true = Yes
-tabs_of false = No
-
 abbrev pub to_eol : ℕ → Result WhitespaceResult Refusal → Answer
 to_eol n (Ok blanks) = Answer.ToEol n blanks.found_tabs blanks.has_valid_yaml_ws
 to_eol n (Err refusal) = Answer.Unseparated n
@@ -79,8 +68,8 @@ to_eol n (Err refusal) = Answer.Unseparated n
 abbrev pub Skimming : Bool → Skim → Answer → View → View → Type 0
 Skimming prompt Skim.NonBreakz a v w = (n : ℕ) × (a ≡ Answer.Number n) × Skims prompt true (scan_asks prompt) (run_of printable_not_breakz v.ahead) n v w
 Skimming prompt Skim.Blank a v w = (n : ℕ) × (a ≡ Answer.Number n) × Skims prompt true (scan_asks prompt) (run_of blank v.ahead) n v w
-Skimming prompt (Skim.ToEol tabs) a v w = (r : ℕ × Result WhitespaceResult Refusal) × (a ≡ to_eol r.0 r.1) × SkipsToEol prompt (tabs_of tabs) r v w
-Skimming prompt (Skim.ToEolBlanks tabs) a v w = (r : ℕ × WhitespaceResult) × (a ≡ Answer.Blanks r.0 r.1.found_tabs r.1.has_valid_yaml_ws) × SkipsBlanks prompt (tabs_of tabs) r v w
+Skimming prompt (Skim.ToEol tabs) a v w = (r : ℕ × Result WhitespaceResult Refusal) × (a ≡ to_eol r.0 r.1) × SkipsToEol prompt tabs r v w
+Skimming prompt (Skim.ToEolBlanks tabs) a v w = (r : ℕ × WhitespaceResult) × (a ≡ Answer.Blanks r.0 r.1.found_tabs r.1.has_valid_yaml_ws) × SkipsBlanks prompt tabs r v w
 Skimming prompt (Skim.Chunk count in_flow) a v w = (r : Bool × ℕ) × (a ≡ Answer.Chunk r.0 r.1) × SkipsChunk prompt in_flow count r v w
 Skimming prompt (Skim.Run in_flow) a v w = (n : ℕ) × (a ≡ Answer.Number n) × Skims prompt true 2 (plain_run in_flow v.ahead) n v w
 

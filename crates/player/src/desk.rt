@@ -1,6 +1,6 @@
 //! What a player has beside its input: rooms, and the lines that it has yet to hand out.
 
-use crate::classes::{class_answer, production_answer};
+use crate::classes::class_answer;
 use crate::rooms::Rooms;
 use protocol::answer::Answer;
 use protocol::command::Command;
@@ -35,7 +35,7 @@ impl Desk {
             Command::Bad => push_answer(&mut self.out, Answer::Bad),
             Command::Class(class, code) => push_answer(&mut self.out, class_answer(class, code)),
             Command::Production(production, code) => {
-                push_answer(&mut self.out, production_answer(production, code))
+                push_answer(&mut self.out, class_answer(production, code))
             }
             Command::Room(size, filled) => {
                 self.rooms.ask(self.heap, size, filled)?;

@@ -1,10 +1,10 @@
 //! Commands line by line, up to the next new input.
 
-ghost use Rattle.std.specs.Prelude.{◌≡◌, ◌<◌, ◌≤◌, length, IfOk};
-ghost use Rattle.player.specs.Lines.{LineFrom};
+ghost use Rattle.std.specs.Prelude.{◌≡◌, ◌≤◌, length, IfOk};
+ghost use Rattle.player.specs.Lines.{IsLineFeed, TakesLine, Leaves};
 
 use crate::desk::Desk;
-use crate::play::{leave, play};
+use crate::play::play;
 use input::borrowed::BorrowedInput;
 use input::ticket::Reading;
 use protocol::command::{Command, parse};
@@ -12,25 +12,44 @@ use scan::Scan;
 use std::alloc::AllocError;
 use std::io;
 
-/// Where a line ends, and where the next begins.
+/// The lines of a text that are yet to be read.
 #[derive(Clone, Copy)]
-pub struct Line {
-    pub end: usize,
-    pub next: usize,
+pub struct Lines<'a> {
+    pub rest: &'a [u8],
 }
 
-/// The line from a place of a text.
-pub fn line_from(text: &[u8], from: usize) -> Line
-    ensures { from ≤ length text.now → LineFrom text.now from result.end result.next }
+/// Where the first line feed of a text is, if it has one.
+fn line_feed(text: &[u8]) -> Option<usize>
+    ensures { IsLineFeed text.now result }
 {
-    let mut end = from;
-    while end < text.len() && text[end] != b'\n' {
-        end += 1;
+    text.iter().position(|b| *b == b'\n')
+}
+
+impl<'a> Lines<'a> {
+    pub fn new(text: &'a [u8]) -> Lines<'a>
+        ensures { result.rest.now ≡ text.now }
+    {
+        Lines { rest: text }
     }
-    if end < text.len() {
-        Line { end, next: end + 1 }
-    } else {
-        Line { end, next: end }
+
+    /// Takes the next line, without its line feed.
+    pub fn take_line(&mut self) -> Option<&'a [u8]>
+        ensures { TakesLine self.old.rest.now result self.new.rest.now }
+    {
+        let text = self.rest;
+        if text.is_empty() {
+            return None;
+        }
+        match line_feed(text) {
+            Some(end) => {
+                self.rest = &text[end + 1..];
+                Some(&text[..end])
+            }
+            None => {
+                self.rest = &[];
+                Some(text)
+            }
+        }
     }
 }
 
@@ -38,23 +57,24 @@ fn is_new(command: Command) -> bool {
     matches!(command, Command::New)
 }
 
-/// Answers commands while there is no input. Tells where the next new input is asked for, or the end.
-pub fn idle(rt: &impl Print, text: &[u8], from: usize, desk: &mut Desk) -> io::Result<usize>
-    ensures { IfOk result (λ at. from ≤ at) }
+/// Answers commands while there is no input. Tells the line that asks for the next new input, or that there is none.
+#[tactic(auto, using(crate::proofs::TakenLines::shorter, crate::proofs::TakenLines::left_on, crate::proofs::TakenLines::leaves))]
+pub fn idle<'a>(
+    rt: &impl Print,
+    lines: &mut Lines<'a>,
+    desk: &mut Desk,
+) -> io::Result<Option<&'a [u8]>>
+    ensures { IfOk result (λ asked. Leaves lines.old.rest.now asked lines.new.rest.now) }
 {
-    let mut at = from;
-    while at < text.len() {
-        let line = line_from(text, at);
-        let end = line.end;
-        let command = parse(&text[at..end]);
+    while let Some(line) = lines.take_line() {
+        let command = parse(line);
         if is_new(command) {
-            break;
+            return Ok(Some(line));
         }
         desk.aside(command)?;
         desk.flush_if_large(rt)?;
-        at = line.next;
     }
-    Ok(at)
+    Ok(None)
 }
 
 fn turn<'a, I: Scan + BorrowedInput<'a>>(
@@ -74,34 +94,31 @@ fn settled(done: Result<(), AllocError>, rt: &impl Print, desk: &mut Desk) -> io
     desk.flush_if_large(rt)
 }
 
-/// Answers commands with an input, and at last closes the reading that is open. Tells where the next new input is asked for, or the end.
-pub fn serve<'a, I: Scan + BorrowedInput<'a>>(
+/// Answers commands with an input, and at last closes the reading that is open. Tells the line that asks for the next new input, or that there is none.
+#[tactic(auto, using(crate::proofs::TakenLines::shorter, crate::proofs::TakenLines::left_on, crate::proofs::TakenLines::leaves))]
+pub fn serve<'a, 'b, I: Scan + BorrowedInput<'a>>(
     rt: &impl Print,
     input: &mut I,
-    text: &[u8],
-    from: usize,
+    lines: &mut Lines<'b>,
     desk: &mut Desk,
-) -> io::Result<usize>
-    ensures { IfOk result (λ at. from ≤ at) }
+) -> io::Result<Option<&'b [u8]>>
+    ensures { IfOk result (λ asked. Leaves lines.old.rest.now asked lines.new.rest.now) }
 {
     let mut held = None;
-    let mut outcome = Ok(());
-    let mut at = from;
-    while at < text.len() && outcome.is_ok() {
-        let line = line_from(text, at);
-        let end = line.end;
-        let command = parse(&text[at..end]);
+    let stopped = loop {
+        let Some(line) = lines.take_line() else {
+            break Ok(None);
+        };
+        let command = parse(line);
         if is_new(command) {
-            break;
+            break Ok(Some(line));
         }
         let (done, next) = turn(input, command, held, desk);
         held = next;
-        outcome = settled(done, rt, desk);
-        at = line.next;
-    }
-    leave(input, held);
-    match outcome {
-        Ok(()) => Ok(at),
-        Err(e) => Err(e),
-    }
+        if let Err(e) = settled(done, rt, desk) {
+            break Err(e);
+        }
+    };
+    let _ = Reading::close_held(held, input);
+    stopped
 }

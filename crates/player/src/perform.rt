@@ -4,14 +4,15 @@ ghost use Rattle.std.specs.Prelude.{◌≡◌, Bool, Result};
 ghost use Rattle.error.specs.Numbers.{outcome};
 ghost use Rattle.error.specs.declared.Refusal.{Refusal as Refused};
 ghost use Rattle.input.specs.Tests.{flag};
-ghost use Rattle.player.specs.Meaning.{Steps, Counts, tested, Tests, Comparing, tabs_of, to_eol, Skimming, Fetching};
+ghost use Rattle.protocol.specs.Answers.{tested};
+ghost use Rattle.player.specs.Meaning.{Steps, Counts, Tests, Comparing, to_eol, Skimming, Fetching};
 
 use error::Refusal;
 use input::{Input, calls};
 use protocol::answer::Answer;
 use protocol::command::{Comparison, Fetch, Skim};
 use protocol::names::{Counted, Step, Test};
-use runs::{Fetched, SkipTabs, WhitespaceResult};
+use runs::{Fetched, WhitespaceResult};
 use scan::Scan;
 
 pub fn step<I: Input>(input: &mut I, step: Step) -> Answer
@@ -50,22 +51,13 @@ pub fn counted<I: Input>(input: &mut I, counted: Counted, n: usize) -> Answer
     }
 }
 
-fn test_answer(res: Result<bool, Refusal>) -> Answer
-    ensures { result ≡ tested res }
-{
-    match res {
-        Ok(truth) => Answer::Truth(truth),
-        Err(refusal) => Answer::Refused(refusal),
-    }
-}
-
 pub fn test<I: Input>(input: &I, test: Test) -> Answer
     ensures { Tests (I.Input.shown input.now) (I.Input.view input.now) test result }
 {
     match test {
-        Test::Indicator => test_answer(calls::next_is_document_indicator(input)),
-        Test::Start => test_answer(calls::next_is_document_start(input)),
-        Test::End => test_answer(calls::next_is_document_end(input)),
+        Test::Indicator => Answer::from(calls::next_is_document_indicator(input)),
+        Test::Start => Answer::from(calls::next_is_document_start(input)),
+        Test::End => Answer::from(calls::next_is_document_end(input)),
         Test::BlankOrBreak => Answer::Truth(calls::next_is_blank_or_break(input)),
         Test::BlankOrBreakz => Answer::Truth(calls::next_is_blank_or_breakz(input)),
         Test::Blank => Answer::Truth(calls::next_is_blank(input)),
@@ -92,13 +84,7 @@ fn comparing<I: Input>(input: &I, comparison: Comparison) -> Result<bool, Refusa
 pub fn compare<I: Input>(input: &I, comparison: Comparison) -> Answer
     ensures { (told : Result Bool Refused) × (result ≡ tested told) × Comparing (I.Input.shown input.now) (I.Input.view input.now) comparison (outcome flag told) }
 {
-    test_answer(comparing(input, comparison))
-}
-
-fn skip_tabs(tabs: bool) -> SkipTabs
-    ensures { result ≡ tabs_of tabs }
-{
-    if tabs { SkipTabs::Yes } else { SkipTabs::No }
+    Answer::from(comparing(input, comparison))
 }
 
 fn eol_answer(count: usize, res: Result<WhitespaceResult, Refusal>) -> Answer
@@ -117,11 +103,11 @@ pub fn skim<I: Scan>(input: &mut I, skim: Skim) -> Answer
         Skim::NonBreakz => Answer::Number(input.skip_while_non_breakz()),
         Skim::Blank => Answer::Number(input.skip_while_blank()),
         Skim::ToEol(tabs) => {
-            let (count, result) = input.skip_ws_to_eol(skip_tabs(tabs));
+            let (count, result) = input.skip_ws_to_eol(tabs);
             eol_answer(count, result)
         }
         Skim::ToEolBlanks(tabs) => {
-            let (count, blanks) = input.skip_ws_to_eol_blanks(skip_tabs(tabs));
+            let (count, blanks) = input.skip_ws_to_eol_blanks(tabs);
             Answer::Blanks(count, blanks.found_tabs, blanks.has_valid_yaml_ws)
         }
         Skim::Chunk(count, in_flow) => {

@@ -1,41 +1,18 @@
 //! A call with its line of answer.
 
 ghost use Rattle.std.specs.Prelude.{◌≡◌, ℕ, List, ◌++◌, string_bytes, Option, OnOk};
-ghost use Rattle.input.specs.Calls.{Closes};
 ghost use Rattle.player.specs.Meaning.{part_line, Plays};
 
 use crate::perform::{compare, counted, skim, step, test};
 use crate::rooms::Rooms;
 use input::borrowed::BorrowedInput;
 use input::ticket::Reading;
-use input::{Closing, Input, calls};
+use input::{Input, calls};
 use protocol::answer::Answer;
 use protocol::command::Call;
 use protocol::line::{push_answer, push_part};
 use scan::Scan;
 use std::alloc::AllocError;
-
-/// Opens a reading, unless one is open.
-fn open<I: Input>(input: &I, held: Option<Reading>) -> Reading {
-    match held {
-        Some(reading) => reading,
-        None => Reading::open(input),
-    }
-}
-
-/// Closes the reading that is open; where none is, one is opened for it.
-fn close<I: Input>(input: &mut I, held: Option<Reading>) -> Closing
-    ensures { Closes I.Input.prompt I.Input.most result (I.Input.view input.old) (I.Input.view input.new) }
-{
-    open(input, held).close(input)
-}
-
-/// Closes the reading that is open, if one is.
-pub fn leave<I: Input>(input: &mut I, held: Option<Reading>) {
-    if let Some(reading) = held {
-        let _ = reading.close(input);
-    }
-}
 
 fn borrow<'a, I: BorrowedInput<'a>>(
     input: &I,
@@ -74,9 +51,15 @@ pub fn play<'a, I: Scan + BorrowedInput<'a>>(
         Call::Fetch(which) => (rooms.fetch(input, which, out), held),
         Call::Borrow(start, end) => (borrow(input, start, end, out), held),
         Call::Open => {
-            let reading = open(input, held);
+            let reading = match held {
+                Some(reading) => reading,
+                None => Reading::open(input),
+            };
             (push_answer(out, Answer::Done), Some(reading))
         }
-        Call::Close => (push_answer(out, Answer::Closed(close(input, held))), None),
+        Call::Close => (
+            push_answer(out, Answer::Closed(Reading::close_opened(held, input))),
+            None,
+        ),
     }
 }

@@ -1,14 +1,13 @@
 //! The rooms that fetches are given.
 
-ghost use Rattle.std.specs.Prelude.{◌≡◌, ℕ, ◌≤◌, List, ◌++◌, length, string_bytes, OnOk};
-ghost use Rattle.player.specs.Meaning.{between, FetchLine, SomeRoom};
+ghost use Rattle.std.specs.Prelude.{◌≡◌, ℕ, ◌≤◌, List, ◌++◌, length, replicate, string_bytes, vec_items, OnOk, IfOk};
+ghost use Rattle.player.specs.Meaning.{between, SomeRoom};
 
 use crate::perform::fetch;
 use protocol::command::Fetch;
 use protocol::line::{push_fetched, push_room};
 use scan::Scan;
 use std::alloc::{AllocError, Global};
-use std::mem::swap;
 
 /// The size of a room that was not asked for: more than any fetch can fill.
 const USUAL_SIZE: usize = 70_000;
@@ -16,25 +15,26 @@ const USUAL_SIZE: usize = 70_000;
 /// What a room holds before a fetch.
 const UNTOUCHED: u8 = 0xEE;
 
-/// Which room the last fetch had.
-#[derive(Clone, Copy)]
-enum Last {
-    None,
-    Usual,
-    Asked,
+/// A room, of which so many bytes from the start are filled.
+#[derive(Drop)]
+struct Room {
+    bytes: Vec<u8>,
+    filled: usize,
 }
 
-/// One usual room, of which only what was written is wiped; the last room that was asked for and used; and the next.
+/// The room that the last fetch had.
+#[derive(Drop)]
+enum Last {
+    Usual,
+    Asked(Room),
+}
+
+/// One usual room, of which only what was written is wiped, and the next that was asked for.
 #[derive(Drop)]
 pub struct Rooms {
-    usual: Vec<u8>,
-    /// How many bytes from the start the last fetch may have written.
-    written: usize,
-    asked: Vec<u8>,
-    next: Vec<u8>,
-    /// The filled count of the next fetch's room, if one was asked for.
-    filled: Option<usize>,
-    last: Last,
+    usual: Room,
+    next: Option<Room>,
+    last: Option<Last>,
 }
 
 /// The bytes from one filled count to another.
@@ -48,86 +48,61 @@ fn appended(room: &[u8], from: usize, to: usize) -> &[u8]
     }
 }
 
-fn wipe(room: &mut [u8], until: usize) {
-    for n in 0..until.min(room.len()) {
-        room[n] = UNTOUCHED;
+impl Room {
+    fn new(heap: Global, size: usize, filled: usize) -> Result<Room, AllocError>
+        ensures { IfOk result (λ room. (vec_items room.bytes ≡ replicate size UNTOUCHED) × (room.filled ≡ filled)) }
+    {
+        let bytes = vec![in heap; UNTOUCHED; size]?;
+        Ok(Room { bytes, filled })
     }
-}
 
-/// A fetch into a room, and its line.
-fn fetch_into<I: Scan>(
-    input: &mut I,
-    asked: Fetch,
-    room: &mut [u8],
-    filled: usize,
-    out: &mut String,
-) -> (Result<(), AllocError>, usize)
-    ensures { (line : List ℕ) × OnOk result.0 (string_bytes out.new ≡ string_bytes out.old ++ line) × FetchLine I.Input.prompt asked room.old filled room.new line (I.Input.view input.old) (I.Input.view input.new) }
-{
-    let (stopped, fetched) = fetch(input, asked, room, filled);
-    let bytes = appended(room, filled, fetched.filled);
-    let pushed = push_fetched(out, stopped, fetched.count, bytes, fetched.refusal);
-    (pushed, fetched.filled)
+    /// Takes back what was filled.
+    fn wipe(&mut self) {
+        let until = self.filled.min(self.bytes.len());
+        self.bytes[..until].fill(UNTOUCHED);
+        self.filled = 0;
+    }
+
+    /// A fetch into the room, and its line.
+    fn fetch<I: Scan>(
+        &mut self,
+        input: &mut I,
+        asked: Fetch,
+        out: &mut String,
+    ) -> Result<(), AllocError>
+        ensures { (line : List ℕ) × OnOk result (string_bytes out.new ≡ string_bytes out.old ++ line) × SomeRoom I.Input.prompt asked line (I.Input.view input.old) (I.Input.view input.new) }
+    {
+        let room = self.bytes.as_mut_slice();
+        let (stopped, fetched) = fetch(input, asked, room, self.filled);
+        let bytes = appended(room, self.filled, fetched.filled);
+        let pushed = push_fetched(out, stopped, fetched.count, bytes, fetched.refusal);
+        self.filled = fetched.filled;
+        pushed
+    }
 }
 
 impl Rooms {
     pub fn new(heap: Global) -> Result<Rooms, AllocError> {
-        let usual = vec![in heap; UNTOUCHED; USUAL_SIZE]?;
         Ok(Rooms {
-            usual,
-            written: 0,
-            asked: Vec::new(heap),
-            next: Vec::new(heap),
-            filled: None,
-            last: Last::None,
+            usual: Room::new(heap, USUAL_SIZE, 0)?,
+            next: None,
+            last: None,
         })
     }
 
     /// Gives the next fetch a room of its own.
     pub fn ask(&mut self, heap: Global, size: usize, filled: usize) -> Result<(), AllocError> {
-        self.next = vec![in heap; UNTOUCHED; size]?;
-        self.filled = Some(filled);
+        self.next = Some(Room::new(heap, size, filled)?);
         Ok(())
     }
 
     /// Appends a line with the last room whole.
     pub fn show(&self, out: &mut String) -> Result<(), AllocError> {
-        match self.last {
-            Last::None => push_room(out, &[]),
-            Last::Usual => push_room(out, self.usual.as_slice()),
-            Last::Asked => push_room(out, self.asked.as_slice()),
+        match &self.last {
+            None => push_room(out, &[]),
+            Some(Last::Usual) => push_room(out, self.usual.bytes.as_slice()),
+            Some(Last::Asked(room)) => push_room(out, room.bytes.as_slice()),
         }
-    }
-
-    fn usual_fetch<I: Scan>(
-        &mut self,
-        input: &mut I,
-        asked: Fetch,
-        out: &mut String,
-    ) -> Result<(), AllocError>
-        ensures { (line : List ℕ) × OnOk result (string_bytes out.new ≡ string_bytes out.old ++ line) × SomeRoom I.Input.prompt asked line (I.Input.view input.old) (I.Input.view input.new) }
-    {
-        self.last = Last::Usual;
-        wipe(self.usual.as_mut_slice(), self.written);
-        let (pushed, filled) = fetch_into(input, asked, self.usual.as_mut_slice(), 0, out);
-        self.written = filled;
-        pushed
-    }
-
-    fn asked_fetch<I: Scan>(
-        &mut self,
-        input: &mut I,
-        asked: Fetch,
-        filled: usize,
-        out: &mut String,
-    ) -> Result<(), AllocError>
-        ensures { (line : List ℕ) × OnOk result (string_bytes out.new ≡ string_bytes out.old ++ line) × SomeRoom I.Input.prompt asked line (I.Input.view input.old) (I.Input.view input.new) }
-    {
-        self.last = Last::Asked;
-        self.filled = None;
-        swap(&mut self.asked, &mut self.next);
-        let (pushed, _) = fetch_into(input, asked, self.asked.as_mut_slice(), filled, out);
-        pushed
     }
 
     /// A fetch into the room that was asked for, or else into the usual one.
@@ -139,9 +114,17 @@ impl Rooms {
     ) -> Result<(), AllocError>
         ensures { (line : List ℕ) × OnOk result (string_bytes out.new ≡ string_bytes out.old ++ line) × SomeRoom I.Input.prompt asked line (I.Input.view input.old) (I.Input.view input.new) }
     {
-        match self.filled {
-            Some(filled) => self.asked_fetch(input, asked, filled, out),
-            None => self.usual_fetch(input, asked, out),
+        match self.next.take() {
+            Some(mut room) => {
+                let pushed = room.fetch(input, asked, out);
+                self.last = Some(Last::Asked(room));
+                pushed
+            }
+            None => {
+                self.last = Some(Last::Usual);
+                self.usual.wipe();
+                self.usual.fetch(input, asked, out)
+            }
         }
     }
 }

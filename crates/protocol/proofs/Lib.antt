@@ -1,3 +1,3 @@
-pub mod Joined
+pub mod Hex
 pub mod Spelling
 pub mod Written

@@ -1,5 +1,5 @@
 -- What is printed of each answer. Assumes nothing.
-use Rattle.std.specs.Prelude.{ℕ, ◌/◌, ◌%◌, Bool, false, cond, List, [], ◌∷◌, ◌++◌, Some, None, codes, decimal, Option, ◌==◌, nat_lt}
+use Rattle.std.specs.Prelude.{ℕ, ◌/◌, ◌%◌, Bool, false, cond, List, [], ◌∷◌, ◌++◌, Some, None, Ok, Err, codes, decimal, Option, Result, ◌==◌, nat_lt}
 use Rattle.std.specs.Char.{digit_char}
 use Rattle.error.specs.Numbers.{number}
 use Rattle.error.specs.declared.Fault.{Fault}
@@ -12,6 +12,11 @@ use Rattle.input.specs.declared.Closing.TheVariants.{Left, Failed, Whole}
 use Rattle.protocol.specs.declared.answer.Answer.{Answer}
 use Rattle.protocol.specs.Values.{truth_name}
 use Rattle.protocol.specs.Digits.{bytes_text}
+
+-- a test's answer, or its refusal
+abbrev pub tested : Result Bool Refusal → Answer
+tested (Ok truth) = Answer.Truth truth
+tested (Err refusal) = Answer.Refused refusal
 
 abbrev pub kind_text : FaultKind → List ℕ
 kind_text InputIo = codes "InputIo"

@@ -2,3 +2,4 @@ pub mod Names
 pub mod Values
 pub mod Digits
 pub mod Answers
+pub mod Commands

@@ -1,5 +1,6 @@
 -- The name of each call and class, and what a word names. Assumes nothing.
-use Rattle.std.specs.Prelude.{◌≡◌, ℕ, List, Some, None, codes, Option, ◌≢◌}
+use Rattle.std.specs.Prelude.{◌≡◌, ℕ, List, Some, None, codes, Option, Result, ◌≢◌}
+use Rattle.std.specs.Result.{result_ok}
 use Rattle.protocol.specs.declared.names.Step.{Step}
 use Rattle.protocol.specs.declared.names.Test.{Test}
 use Rattle.protocol.specs.declared.names.Scan.{Scan}
@@ -15,6 +16,10 @@ use Rattle.protocol.specs.declared.names.Production.{Production}
 abbrev pub Named : {T : Type 0} → (T → List ℕ) → List ℕ → Option T → Type 0
 Named {T = T} name word None = (x : T) → name x ≢ word
 Named name word (Some x) = name x ≡ word
+
+-- the same, where an error tells that there is none
+abbrev pub ReadsName : {T E : Type 0} → (T → List ℕ) → List ℕ → Result T E → Type 0
+ReadsName name word r = Named name word (result_ok r)
 
 abbrev pub step_name : Step → List ℕ
 step_name Step.Buflen = codes "buflen"

@@ -3,6 +3,10 @@ use Rattle.std.specs.Prelude.{◌≡◌, ℕ, ◌+◌, ◌*◌, ◌^◌, ◌<◌
 use Rattle.std.specs.Str.Parse.{IsNumeral, digits_value, without_leading_plus}
 use Rattle.std.specs.Char.{digit_value}
 use Rattle.std.specs.declared.alloc.Global.{Global}
+use Rattle.runs.specs.declared.SkipTabs.{SkipTabs}
+use Rattle.runs.specs.declared.SkipTabs.TheVariants.{Yes, No}
+use Rattle.source.specs.declared.codes.CodesEnding.{CodesEnding}
+use Rattle.source.specs.declared.codes.CodesEnding.TheVariants.{Clean, InputIo}
 
 -- digits in this base, after a plus or nothing, and the number fits its bits
 abbrev pub Writes : ℕ → ℕ → List ℕ → Type 0
@@ -17,9 +21,13 @@ abbrev pub truth_name : Bool → List ℕ
 truth_name true = codes "true"
 truth_name false = codes "false"
 
-abbrev pub consent_name : Bool → List ℕ
-consent_name true = codes "yes"
-consent_name false = codes "no"
+abbrev pub skip_tabs_name : SkipTabs → List ℕ
+skip_tabs_name Yes = codes "yes"
+skip_tabs_name No = codes "no"
+
+abbrev pub ending_name : CodesEnding → List ℕ
+ending_name Clean = codes "clean"
+ending_name InputIo = codes "io"
 
 -- two hexadecimal digits of either case spell a byte
 abbrev pub SpellsByte : ℕ → ℕ → ℕ → Type 0

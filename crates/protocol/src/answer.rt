@@ -1,9 +1,8 @@
 //! Answers as text.
 
 ghost use Rattle.std.specs.Prelude.{◌≡◌, Some};
-ghost use Rattle.protocol.specs.Answers.{kind_text, fault_text, code_text, unseparated_text, refusal_text, closing_text, answer_text};
+ghost use Rattle.protocol.specs.Answers.{kind_text, fault_text, code_text, refusal_text, closing_text, answer_text};
 
-use crate::digits::digit_name;
 use error::{Fault, FaultKind, Refusal};
 use input::Closing;
 use std::fmt;
@@ -28,6 +27,19 @@ pub enum Answer {
     Unseparated(usize),
     /// Whether a chunk stopped before its count, and how many it took.
     Chunk(bool, usize),
+}
+
+impl From<Result<bool, Refusal>> for Answer {
+    ghost use Rattle.protocol.specs.Answers.{tested};
+
+    ghost from_gives = { λ told answer. answer ≡ tested told };
+
+    fn from(told: Result<bool, Refusal>) -> Answer {
+        match told {
+            Ok(truth) => Answer::Truth(truth),
+            Err(refusal) => Answer::Refused(refusal),
+        }
+    }
 }
 
 fn kind_name(kind: FaultKind) -> &'static str
@@ -60,37 +72,11 @@ pub struct Code(pub char);
 impl fmt::Display for Code {
     ghost output = { λ code. Some (code_text code.0) };
 
+    #[tactic(auto, using(crate::proofs::Hex::hex_code))]
     fn fmt<W: fmt::Write>(&self, f: &mut fmt::Formatter<W>) -> fmt::Result {
-        let code = self.0 as u32;
-        let a = digit_name(code % 16);
-        if code < 0x10 {
-            return write!(f, "{a}");
-        }
-        let b = digit_name(code / 0x10 % 16);
-        if code < 0x100 {
-            return write!(f, "{b}{a}");
-        }
-        let c = digit_name(code / 0x100 % 16);
-        if code < 0x1000 {
-            return write!(f, "{c}{b}{a}");
-        }
-        let d = digit_name(code / 0x1000 % 16);
-        if code < 0x1_0000 {
-            return write!(f, "{d}{c}{b}{a}");
-        }
-        let e = digit_name(code / 0x1_0000 % 16);
-        if code < 0x10_0000 {
-            return write!(f, "{e}{d}{c}{b}{a}");
-        }
-        let g = digit_name(code / 0x10_0000);
-        write!(f, "{g}{e}{d}{c}{b}{a}")
+        let code = u32::from(self.0);
+        write!(f, "{code:x}")
     }
-}
-
-fn unseparated() -> &'static str
-    ensures { result.now ≡ unseparated_text }
-{
-    "CommentNotSeparated"
 }
 
 /// A refusal's number, and its place if it has one.
@@ -145,10 +131,7 @@ impl fmt::Display for Answer {
             Answer::Closed(closing) => Ended(closing).fmt(f),
             Answer::Blanks(n, tabs, spaces) => write!(f, "{n} {tabs} {spaces}"),
             Answer::ToEol(n, tabs, spaces) => write!(f, "{n} ok {tabs} {spaces}"),
-            Answer::Unseparated(n) => {
-                let why = unseparated();
-                write!(f, "{n} err {why}")
-            }
+            Answer::Unseparated(n) => write!(f, "{n} err CommentNotSeparated"),
             Answer::Chunk(stopped, n) => write!(f, "{stopped} {n}"),
         }
     }

@@ -1,12 +1,12 @@
 //! One line as a command.
 
-use crate::names::{
-    Chunk, Class, Counted, Flowing, Own, Production, Scan, Step, Tabbed, Test, chunk_named,
-    class_named, counted_named, flowing_named, own_named, production_named, scan_named, step_named,
-    tabbed_named, test_named,
-};
-use crate::values::{code_of, consent_of, count_of, truth_of};
-use std::str::from_utf8;
+ghost use Rattle.std.specs.Prelude.{◌≡◌};
+ghost use Rattle.protocol.specs.Commands.{flowing_call, tabbed_call, chunk_call};
+
+use crate::names::{Chunk, Class, Counted, Flowing, Own, Production, Scan, Step, Tabbed, Test};
+use crate::values::{code_of, count_of, skip_tabs_of, truth_of};
+use runs::SkipTabs;
+use std::str::{SplitAsciiWhitespace, from_utf8};
 
 /// A test for characters that are named by their codes.
 #[derive(Clone, Copy)]
@@ -22,9 +22,8 @@ pub enum Comparison {
 pub enum Skim {
     NonBreakz,
     Blank,
-    /// With tabs or without.
-    ToEol(bool),
-    ToEolBlanks(bool),
+    ToEol(SkipTabs),
+    ToEolBlanks(SkipTabs),
     /// So many characters, in flow or not.
     Chunk(usize, bool),
     Run(bool),
@@ -70,71 +69,49 @@ pub enum Command {
     Call(Call),
 }
 
-/// The first words of a line. One that is not there is empty, and a word that is there is not.
-#[derive(Clone, Copy)]
-pub(crate) struct Words<'a> {
-    pub(crate) name: &'a str,
-    pub(crate) first: &'a str,
-    pub(crate) second: &'a str,
-    pub(crate) third: &'a str,
-    pub(crate) more: &'a str,
-}
+impl From<Call> for Command {
+    ghost use Rattle.protocol.specs.declared.command.Command.{Command};
 
-pub(crate) fn words_of(line: &str) -> Words<'_> {
-    let mut words = line.split_ascii_whitespace();
-    let name = words.next().unwrap_or("");
-    let first = words.next().unwrap_or("");
-    let second = words.next().unwrap_or("");
-    let third = words.next().unwrap_or("");
-    let more = words.next().unwrap_or("");
-    Words {
-        name,
-        first,
-        second,
-        third,
-        more,
+    ghost from_gives = { λ call command. command ≡ Command.Call call };
+
+    fn from(call: Call) -> Command {
+        Command::Call(call)
     }
 }
 
-fn asked(call: Call) -> Option<Command> {
-    Some(Command::Call(call))
-}
+impl From<Own> for Command {
+    ghost use Rattle.protocol.specs.Commands.{own_command};
 
-fn scan_call(scan: Scan) -> Call {
-    match scan {
-        Scan::SkipNonBreakz => Call::Skim(Skim::NonBreakz),
-        Scan::SkipBlank => Call::Skim(Skim::Blank),
-        Scan::FetchAlpha => Call::Fetch(Fetch::Alpha),
-        Scan::FetchNonSpace => Call::Fetch(Fetch::NonSpace),
-        Scan::FetchLine => Call::Fetch(Fetch::Line),
-    }
-}
+    ghost from_gives = { λ own command. command ≡ own_command own };
 
-fn own_command(own: Own) -> Command {
-    match own {
-        Own::Open => Command::Call(Call::Open),
-        Own::Close => Command::Call(Call::Close),
-        Own::RoomBytes => Command::RoomBytes,
+    fn from(own: Own) -> Command {
+        match own {
+            Own::Open => Command::Call(Call::Open),
+            Own::Close => Command::Call(Call::Close),
+            Own::RoomBytes => Command::RoomBytes,
+        }
     }
 }
 
-fn bare(name: &str) -> Option<Command> {
-    if let Some(step) = step_named(name) {
-        return asked(Call::Step(step));
-    }
-    if let Some(test) = test_named(name) {
-        return asked(Call::Test(test));
-    }
-    if let Some(scan) = scan_named(name) {
-        return asked(scan_call(scan));
-    }
-    match own_named(name) {
-        Some(own) => Some(own_command(own)),
-        None => None,
+impl From<Scan> for Call {
+    ghost use Rattle.protocol.specs.Commands.{scan_call};
+
+    ghost from_gives = { λ scan call. call ≡ scan_call scan };
+
+    fn from(scan: Scan) -> Call {
+        match scan {
+            Scan::SkipNonBreakz => Call::Skim(Skim::NonBreakz),
+            Scan::SkipBlank => Call::Skim(Skim::Blank),
+            Scan::FetchAlpha => Call::Fetch(Fetch::Alpha),
+            Scan::FetchNonSpace => Call::Fetch(Fetch::NonSpace),
+            Scan::FetchLine => Call::Fetch(Fetch::Line),
+        }
     }
 }
 
-fn flowing_call(flowing: Flowing, in_flow: bool) -> Call {
+fn flowing_call(flowing: Flowing, in_flow: bool) -> Call
+    ensures { result ≡ flowing_call flowing in_flow }
+{
     match flowing {
         Flowing::CanBePlain => Call::CanBePlain(in_flow),
         Flowing::FetchRun => Call::Fetch(Fetch::Run(in_flow)),
@@ -142,68 +119,81 @@ fn flowing_call(flowing: Flowing, in_flow: bool) -> Call {
     }
 }
 
-fn tabbed_call(tabbed: Tabbed, tabs: bool) -> Call {
+fn tabbed_call(tabbed: Tabbed, tabs: SkipTabs) -> Call
+    ensures { result ≡ tabbed_call tabbed tabs }
+{
     match tabbed {
         Tabbed::ToEol => Call::Skim(Skim::ToEol(tabs)),
         Tabbed::ToEolBlanks => Call::Skim(Skim::ToEolBlanks(tabs)),
     }
 }
 
-fn with_one(name: &str, word: &str) -> Option<Command> {
-    if let Some(counted) = counted_named(name) {
-        return asked(Call::Counted(counted, count_of(word)?));
-    }
-    if let Some(flowing) = flowing_named(name) {
-        return asked(flowing_call(flowing, truth_of(word)?));
-    }
-    if let Some(tabbed) = tabbed_named(name) {
-        return asked(tabbed_call(tabbed, consent_of(word)?));
-    }
-    if name == "next_char_is" {
-        return asked(Call::Comparison(Comparison::Next(code_of(word)?)));
-    }
-    None
-}
-
-fn class_command(name: &str, code: u32) -> Option<Command> {
-    if let Some(class) = class_named(name) {
-        return Some(Command::Class(class, code));
-    }
-    match production_named(name) {
-        Some(production) => Some(Command::Production(production, code)),
-        None => None,
-    }
-}
-
-fn chunk_call(chunk: Chunk, count: usize, in_flow: bool) -> Call {
+fn chunk_call(chunk: Chunk, count: usize, in_flow: bool) -> Call
+    ensures { result ≡ chunk_call chunk count in_flow }
+{
     match chunk {
         Chunk::Fetch => Call::Fetch(Fetch::Chunk(count, in_flow)),
         Chunk::Skip => Call::Skim(Skim::Chunk(count, in_flow)),
     }
 }
 
+fn bare(name: &str) -> Option<Command> {
+    name.parse::<Step>()
+        .map(Call::Step)
+        .or_else(|_| name.parse::<Test>().map(Call::Test))
+        .or_else(|_| name.parse::<Scan>().map(Call::from))
+        .map(Command::Call)
+        .or_else(|_| name.parse::<Own>().map(Command::from))
+        .ok()
+}
+
+fn with_one(name: &str, word: &str) -> Option<Command> {
+    if let Ok(counted) = name.parse() {
+        return Some(Call::Counted(counted, count_of(word)?).into());
+    }
+    if let Ok(flowing) = name.parse() {
+        return Some(flowing_call(flowing, truth_of(word)?).into());
+    }
+    if let Ok(tabbed) = name.parse() {
+        return Some(tabbed_call(tabbed, skip_tabs_of(word)?).into());
+    }
+    match name {
+        "next_char_is" => Some(Call::Comparison(Comparison::Next(code_of(word)?)).into()),
+        _ => None,
+    }
+}
+
+fn class_command(name: &str, code: u32) -> Option<Command> {
+    name.parse::<Class>()
+        .map(|class| Command::Class(class, code))
+        .or_else(|_| {
+            name.parse::<Production>()
+                .map(|production| Command::Production(production, code))
+        })
+        .ok()
+}
+
 /// The largest room that can be asked for.
 const MOST_ROOM: usize = 1_000_000;
 
 fn room_command(size: usize, filled: usize) -> Option<Command> {
-    if size <= MOST_ROOM {
-        Some(Command::Room(size, filled))
-    } else {
-        None
-    }
+    (size <= MOST_ROOM).then_some(Command::Room(size, filled))
 }
 
 fn with_two(name: &str, first: &str, second: &str) -> Option<Command> {
-    if let Some(chunk) = chunk_named(name) {
-        return asked(chunk_call(chunk, count_of(first)?, truth_of(second)?));
+    if let Ok(chunk) = name.parse() {
+        return Some(chunk_call(chunk, count_of(first)?, truth_of(second)?).into());
     }
     match name {
-        "nth_char_is" => asked(Call::Comparison(Comparison::Nth(
-            count_of(first)?,
-            code_of(second)?,
-        ))),
-        "next_2_are" => asked(Call::Comparison(Comparison::Two(code_of(first)?, code_of(second)?))),
-        "slice_borrowed" => asked(Call::Borrow(count_of(first)?, count_of(second)?)),
+        "nth_char_is" => {
+            let comparison = Comparison::Nth(count_of(first)?, code_of(second)?);
+            Some(Call::Comparison(comparison).into())
+        }
+        "next_2_are" => {
+            let comparison = Comparison::Two(code_of(first)?, code_of(second)?);
+            Some(Call::Comparison(comparison).into())
+        }
+        "slice_borrowed" => Some(Call::Borrow(count_of(first)?, count_of(second)?).into()),
         "room" => room_command(count_of(first)?, count_of(second)?),
         "class" => class_command(first, code_of(second)?),
         _ => None,
@@ -211,51 +201,37 @@ fn with_two(name: &str, first: &str, second: &str) -> Option<Command> {
 }
 
 fn with_three(name: &str, first: &str, second: &str, third: &str) -> Option<Command> {
-    if name == "next_3_are" {
-        return asked(Call::Comparison(Comparison::Three(
-            code_of(first)?,
-            code_of(second)?,
-            code_of(third)?,
-        )));
+    match name {
+        "next_3_are" => {
+            let comparison = Comparison::Three(code_of(first)?, code_of(second)?, code_of(third)?);
+            Some(Call::Comparison(comparison).into())
+        }
+        _ => None,
     }
-    None
 }
 
-fn known(words: Words<'_>) -> Option<Command> {
-    if words.more.len() > 0 {
-        return None;
+/// The words of a line after its name, as a command takes four at most.
+fn known(name: &str, mut words: SplitAsciiWhitespace<'_>) -> Option<Command> {
+    match (words.next(), words.next(), words.next(), words.next()) {
+        (None, _, _, _) => bare(name),
+        (Some(first), None, _, _) => with_one(name, first),
+        (Some(first), Some(second), None, _) => with_two(name, first, second),
+        (Some(first), Some(second), Some(third), None) => with_three(name, first, second, third),
+        _ => None,
     }
-    if words.first.len() == 0 {
-        return bare(words.name);
-    }
-    if words.second.len() == 0 {
-        return with_one(words.name, words.first);
-    }
-    if words.third.len() == 0 {
-        return with_two(words.name, words.first, words.second);
-    }
-    with_three(words.name, words.first, words.second, words.third)
 }
 
 fn command_of(text: &str) -> Command {
-    let words = words_of(text);
-    let name = words.name;
-    if name.len() == 0 || name.as_bytes()[0] == b'#' {
-        return Command::Silent;
-    }
-    if name == "new" {
-        return Command::New;
-    }
-    match known(words) {
-        Some(command) => command,
-        None => Command::Bad,
+    let mut words = text.split_ascii_whitespace();
+    match words.next() {
+        None => Command::Silent,
+        Some(name) if name.starts_with('#') => Command::Silent,
+        Some("new") => Command::New,
+        Some(name) => known(name, words).unwrap_or(Command::Bad),
     }
 }
 
 /// The command that a line is.
 pub fn parse(line: &[u8]) -> Command {
-    match from_utf8(line) {
-        Ok(text) => command_of(text),
-        Err(_) => Command::Bad,
-    }
+    from_utf8(line).map_or(Command::Bad, command_of)
 }

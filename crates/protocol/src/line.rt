@@ -14,39 +14,28 @@ use std::fmt::Write;
 pub fn push_answer(out: &mut String, answer: Answer) -> Result<(), AllocError>
     ensures { OnOk result (string_bytes out.new ≡ string_bytes out.old ++ (answer_text answer ++ (10 ∷ []))) }
 {
-    match writeln!(out, "{answer}") {
-        Ok(()) => Ok(()),
-        Err(_) => Err(AllocError),
-    }
+    writeln!(out, "{answer}")
 }
 
 /// Whether a chunk stopped, and the count.
 fn push_taken(out: &mut String, stopped: Option<bool>, count: usize) -> Result<(), AllocError>
     ensures { OnOk result (string_bytes out.new ≡ string_bytes out.old ++ taken_text stopped count) }
 {
-    let written = match stopped {
+    match stopped {
         Some(stopped) => write!(out, "{stopped} {count} "),
         None => write!(out, "{count} "),
-    };
-    match written {
-        Ok(()) => Ok(()),
-        Err(_) => Err(AllocError),
     }
 }
 
 fn push_end(out: &mut String, refusal: Option<Refusal>) -> Result<(), AllocError>
     ensures { OnOk result (string_bytes out.new ≡ string_bytes out.old ++ end_text refusal) }
 {
-    let written = match refusal {
+    match refusal {
         Some(refusal) => {
             let refused = Refused(refusal);
             writeln!(out, " {refused}")
         }
-        None => writeln!(out, ""),
-    };
-    match written {
-        Ok(()) => Ok(()),
-        Err(_) => Err(AllocError),
+        None => writeln!(out),
     }
 }
 

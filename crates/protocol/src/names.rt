@@ -1,6 +1,12 @@
 //! The names of calls and classes.
 
-ghost use Rattle.protocol.specs.Names.{step_name, test_name, scan_name, counted_name, flowing_name, tabbed_name, chunk_name, own_name, class_name, production_name, Named};
+ghost use Rattle.protocol.specs.Names.{step_name, test_name, scan_name, counted_name, flowing_name, tabbed_name, chunk_name, own_name, class_name, production_name, ReadsName};
+
+use std::str::FromStr;
+
+/// A word that names none of its kind.
+#[derive(Clone, Copy, Debug, PartialEq, Eq)]
+pub struct UnknownName;
 
 /// A call with no arguments that is no test and no scan.
 #[derive(Clone, Copy)]
@@ -17,22 +23,25 @@ pub enum Step {
     TakeSourceError,
 }
 
-/// The step of this name, if there is one.
-pub fn step_named(word: &str) -> Option<Step>
-    ensures { Named step_name word.now result }
-{
-    match word {
-        "buflen" => Some(Step::Buflen),
-        "bufmaxlen" => Some(Step::Bufmaxlen),
-        "buf_is_empty" => Some(Step::BufIsEmpty),
-        "raw_read_ch" => Some(Step::RawRead),
-        "raw_read_non_breakz_ch" => Some(Step::RawReadNonBreakz),
-        "skip" => Some(Step::Skip),
-        "peek" => Some(Step::Peek),
-        "look_ch" => Some(Step::LookCh),
-        "next_ch" => Some(Step::NextCh),
-        "take_source_error" => Some(Step::TakeSourceError),
-        _ => None,
+impl FromStr for Step {
+    type Err = UnknownName;
+
+    ghost from_str_gives = { ReadsName step_name };
+
+    fn from_str(word: &str) -> Result<Step, UnknownName> {
+        match word {
+            "buflen" => Ok(Step::Buflen),
+            "bufmaxlen" => Ok(Step::Bufmaxlen),
+            "buf_is_empty" => Ok(Step::BufIsEmpty),
+            "raw_read_ch" => Ok(Step::RawRead),
+            "raw_read_non_breakz_ch" => Ok(Step::RawReadNonBreakz),
+            "skip" => Ok(Step::Skip),
+            "peek" => Ok(Step::Peek),
+            "look_ch" => Ok(Step::LookCh),
+            "next_ch" => Ok(Step::NextCh),
+            "take_source_error" => Ok(Step::TakeSourceError),
+            _ => Err(UnknownName),
+        }
     }
 }
 
@@ -53,24 +62,27 @@ pub enum Test {
     Alpha,
 }
 
-/// The test of this name, if there is one.
-pub fn test_named(word: &str) -> Option<Test>
-    ensures { Named test_name word.now result }
-{
-    match word {
-        "next_is_document_indicator" => Some(Test::Indicator),
-        "next_is_document_start" => Some(Test::Start),
-        "next_is_document_end" => Some(Test::End),
-        "next_is_blank_or_break" => Some(Test::BlankOrBreak),
-        "next_is_blank_or_breakz" => Some(Test::BlankOrBreakz),
-        "next_is_blank" => Some(Test::Blank),
-        "next_is_break" => Some(Test::Break),
-        "next_is_breakz" => Some(Test::Breakz),
-        "next_is_z" => Some(Test::Z),
-        "next_is_flow" => Some(Test::Flow),
-        "next_is_digit" => Some(Test::Digit),
-        "next_is_alpha" => Some(Test::Alpha),
-        _ => None,
+impl FromStr for Test {
+    type Err = UnknownName;
+
+    ghost from_str_gives = { ReadsName test_name };
+
+    fn from_str(word: &str) -> Result<Test, UnknownName> {
+        match word {
+            "next_is_document_indicator" => Ok(Test::Indicator),
+            "next_is_document_start" => Ok(Test::Start),
+            "next_is_document_end" => Ok(Test::End),
+            "next_is_blank_or_break" => Ok(Test::BlankOrBreak),
+            "next_is_blank_or_breakz" => Ok(Test::BlankOrBreakz),
+            "next_is_blank" => Ok(Test::Blank),
+            "next_is_break" => Ok(Test::Break),
+            "next_is_breakz" => Ok(Test::Breakz),
+            "next_is_z" => Ok(Test::Z),
+            "next_is_flow" => Ok(Test::Flow),
+            "next_is_digit" => Ok(Test::Digit),
+            "next_is_alpha" => Ok(Test::Alpha),
+            _ => Err(UnknownName),
+        }
     }
 }
 
@@ -84,17 +96,20 @@ pub enum Scan {
     FetchLine,
 }
 
-/// The scan of this name, if there is one.
-pub fn scan_named(word: &str) -> Option<Scan>
-    ensures { Named scan_name word.now result }
-{
-    match word {
-        "skip_while_non_breakz" => Some(Scan::SkipNonBreakz),
-        "skip_while_blank" => Some(Scan::SkipBlank),
-        "fetch_while_is_alpha" => Some(Scan::FetchAlpha),
-        "fetch_while_is_yaml_non_space" => Some(Scan::FetchNonSpace),
-        "fetch_block_scalar_line" => Some(Scan::FetchLine),
-        _ => None,
+impl FromStr for Scan {
+    type Err = UnknownName;
+
+    ghost from_str_gives = { ReadsName scan_name };
+
+    fn from_str(word: &str) -> Result<Scan, UnknownName> {
+        match word {
+            "skip_while_non_breakz" => Ok(Scan::SkipNonBreakz),
+            "skip_while_blank" => Ok(Scan::SkipBlank),
+            "fetch_while_is_alpha" => Ok(Scan::FetchAlpha),
+            "fetch_while_is_yaml_non_space" => Ok(Scan::FetchNonSpace),
+            "fetch_block_scalar_line" => Ok(Scan::FetchLine),
+            _ => Err(UnknownName),
+        }
     }
 }
 
@@ -106,15 +121,18 @@ pub enum Counted {
     PeekNth,
 }
 
-/// The call with a count of this name, if there is one.
-pub fn counted_named(word: &str) -> Option<Counted>
-    ensures { Named counted_name word.now result }
-{
-    match word {
-        "lookahead" => Some(Counted::Lookahead),
-        "skip_n" => Some(Counted::SkipN),
-        "peek_nth" => Some(Counted::PeekNth),
-        _ => None,
+impl FromStr for Counted {
+    type Err = UnknownName;
+
+    ghost from_str_gives = { ReadsName counted_name };
+
+    fn from_str(word: &str) -> Result<Counted, UnknownName> {
+        match word {
+            "lookahead" => Ok(Counted::Lookahead),
+            "skip_n" => Ok(Counted::SkipN),
+            "peek_nth" => Ok(Counted::PeekNth),
+            _ => Err(UnknownName),
+        }
     }
 }
 
@@ -126,15 +144,18 @@ pub enum Flowing {
     SkipRun,
 }
 
-/// The call of this name, if there is one.
-pub fn flowing_named(word: &str) -> Option<Flowing>
-    ensures { Named flowing_name word.now result }
-{
-    match word {
-        "next_can_be_plain_scalar" => Some(Flowing::CanBePlain),
-        "fetch_plain_run" => Some(Flowing::FetchRun),
-        "skip_plain_run" => Some(Flowing::SkipRun),
-        _ => None,
+impl FromStr for Flowing {
+    type Err = UnknownName;
+
+    ghost from_str_gives = { ReadsName flowing_name };
+
+    fn from_str(word: &str) -> Result<Flowing, UnknownName> {
+        match word {
+            "next_can_be_plain_scalar" => Ok(Flowing::CanBePlain),
+            "fetch_plain_run" => Ok(Flowing::FetchRun),
+            "skip_plain_run" => Ok(Flowing::SkipRun),
+            _ => Err(UnknownName),
+        }
     }
 }
 
@@ -145,14 +166,17 @@ pub enum Tabbed {
     ToEolBlanks,
 }
 
-/// The call of this name, if there is one.
-pub fn tabbed_named(word: &str) -> Option<Tabbed>
-    ensures { Named tabbed_name word.now result }
-{
-    match word {
-        "skip_ws_to_eol" => Some(Tabbed::ToEol),
-        "skip_ws_to_eol_blanks" => Some(Tabbed::ToEolBlanks),
-        _ => None,
+impl FromStr for Tabbed {
+    type Err = UnknownName;
+
+    ghost from_str_gives = { ReadsName tabbed_name };
+
+    fn from_str(word: &str) -> Result<Tabbed, UnknownName> {
+        match word {
+            "skip_ws_to_eol" => Ok(Tabbed::ToEol),
+            "skip_ws_to_eol_blanks" => Ok(Tabbed::ToEolBlanks),
+            _ => Err(UnknownName),
+        }
     }
 }
 
@@ -163,14 +187,17 @@ pub enum Chunk {
     Skip,
 }
 
-/// The chunk call of this name, if there is one.
-pub fn chunk_named(word: &str) -> Option<Chunk>
-    ensures { Named chunk_name word.now result }
-{
-    match word {
-        "fetch_plain_scalar_chunk" => Some(Chunk::Fetch),
-        "skip_plain_scalar_chunk" => Some(Chunk::Skip),
-        _ => None,
+impl FromStr for Chunk {
+    type Err = UnknownName;
+
+    ghost from_str_gives = { ReadsName chunk_name };
+
+    fn from_str(word: &str) -> Result<Chunk, UnknownName> {
+        match word {
+            "fetch_plain_scalar_chunk" => Ok(Chunk::Fetch),
+            "skip_plain_scalar_chunk" => Ok(Chunk::Skip),
+            _ => Err(UnknownName),
+        }
     }
 }
 
@@ -182,15 +209,18 @@ pub enum Own {
     RoomBytes,
 }
 
-/// The command of this name, if there is one.
-pub fn own_named(word: &str) -> Option<Own>
-    ensures { Named own_name word.now result }
-{
-    match word {
-        "open" => Some(Own::Open),
-        "close" => Some(Own::Close),
-        "room_bytes" => Some(Own::RoomBytes),
-        _ => None,
+impl FromStr for Own {
+    type Err = UnknownName;
+
+    ghost from_str_gives = { ReadsName own_name };
+
+    fn from_str(word: &str) -> Result<Own, UnknownName> {
+        match word {
+            "open" => Ok(Own::Open),
+            "close" => Ok(Own::Close),
+            "room_bytes" => Ok(Own::RoomBytes),
+            _ => Err(UnknownName),
+        }
     }
 }
 
@@ -208,21 +238,24 @@ pub enum Class {
     Flow,
 }
 
-/// The class of this name, if there is one.
-pub fn class_named(word: &str) -> Option<Class>
-    ensures { Named class_name word.now result }
-{
-    match word {
-        "is_z" => Some(Class::Z),
-        "is_break" => Some(Class::Break),
-        "is_breakz" => Some(Class::Breakz),
-        "is_blank" => Some(Class::Blank),
-        "is_blank_or_breakz" => Some(Class::BlankOrBreakz),
-        "is_digit" => Some(Class::Digit),
-        "is_alpha" => Some(Class::Alpha),
-        "is_hex" => Some(Class::Hex),
-        "is_flow" => Some(Class::Flow),
-        _ => None,
+impl FromStr for Class {
+    type Err = UnknownName;
+
+    ghost from_str_gives = { ReadsName class_name };
+
+    fn from_str(word: &str) -> Result<Class, UnknownName> {
+        match word {
+            "is_z" => Ok(Class::Z),
+            "is_break" => Ok(Class::Break),
+            "is_breakz" => Ok(Class::Breakz),
+            "is_blank" => Ok(Class::Blank),
+            "is_blank_or_breakz" => Ok(Class::BlankOrBreakz),
+            "is_digit" => Ok(Class::Digit),
+            "is_alpha" => Ok(Class::Alpha),
+            "is_hex" => Ok(Class::Hex),
+            "is_flow" => Ok(Class::Flow),
+            _ => Err(UnknownName),
+        }
     }
 }
 
@@ -239,19 +272,22 @@ pub enum Production {
     Tag,
 }
 
-/// The production of this name, if there is one.
-pub fn production_named(word: &str) -> Option<Production>
-    ensures { Named production_name word.now result }
-{
-    match word {
-        "is_bom" => Some(Production::Bom),
-        "is_yaml_non_break" => Some(Production::NonBreak),
-        "is_printable" => Some(Production::Printable),
-        "is_yaml_non_space" => Some(Production::NonSpace),
-        "is_anchor_char" => Some(Production::Anchor),
-        "is_word_char" => Some(Production::Word),
-        "is_uri_char" => Some(Production::Uri),
-        "is_tag_char" => Some(Production::Tag),
-        _ => None,
+impl FromStr for Production {
+    type Err = UnknownName;
+
+    ghost from_str_gives = { ReadsName production_name };
+
+    fn from_str(word: &str) -> Result<Production, UnknownName> {
+        match word {
+            "is_bom" => Ok(Production::Bom),
+            "is_yaml_non_break" => Ok(Production::NonBreak),
+            "is_printable" => Ok(Production::Printable),
+            "is_yaml_non_space" => Ok(Production::NonSpace),
+            "is_anchor_char" => Ok(Production::Anchor),
+            "is_word_char" => Ok(Production::Word),
+            "is_uri_char" => Ok(Production::Uri),
+            "is_tag_char" => Ok(Production::Tag),
+            _ => Err(UnknownName),
+        }
     }
 }

@@ -1,51 +1,45 @@
 -- The course of a reading, from what its calls did. Assumes nothing.
-use Rattle.std.proofs.Common.{◌≡◌, ℕ, ◌<◌, ◌≤◌, min, max, Bool, true, false, cond, not, ◌&&◌, ◌||◌, ltb, List, [], ◌∷◌, ◌++◌, length, is_some, Some, None, Option, sym, refl, ap, ◌∙◌, subst, append_assoc, arith}
+use Rattle.std.proofs.Common.{◌≡◌, ℕ, ◌<◌, ◌≤◌, min, max, Bool, true, false, cond, not, ◌&&◌, ◌||◌, ltb, List, [], ◌∷◌, ◌++◌, length, is_some, Some, None, Option, sym, refl, ap, ◌∙◌, subst, append_assoc, arith, ltb-true}
+use Rattle.std.proofs.Math.Bool.{or_assoc, or_comm, or-false, and-true}
 use Rattle.error.specs.Numbers.{fault_of}
 use Rattle.error.specs.declared.Fault.{Fault}
-use Rattle.error.specs.declared.Ending.{Ending}
+use Rattle.error.specs.Numbers.{Ending}
 use Rattle.input.specs.View.{View, Sound, New}
 use Rattle.input.specs.Calls.{closed, closing_of}
-use Rattle.input.proofs.Keeping.{never, below}
+use Rattle.input.proofs.Keeping.{never}
 use Rattle.reading.specs.declared.call.Call.{Call}
 use Rattle.reading.specs.declared.call.Call.TheVariants.{TakeSourceError, Close}
 use Rattle.reading.specs.Line.{Line, Performed, answered, asked_values}
-use Rattle.reading.specs.Sorts.{sort_of, asks}
-use Rattle.reading.specs.Reading.{Ran, Moment, Course, Along, joined, Took, Kept, finds_end, largest, due, due_at, asked_once_met, Told, Account}
+use Rattle.reading.specs.Sorts.{sort_of}
+use Rattle.reading.specs.Reading.{Ran, Moment, Course, Along, joined, Took, Counts, Kept, asked_for, found_end, largest, due, due_at, asked_once_met, Told, Account}
 use Rattle.reading.proofs.Facts.{Facts, Tells_of, facts}
 
-or_assoc : (a b c : Bool) → a || (b || c) ≡ (a || b) || c
-or_assoc true b c = refl
-or_assoc false b c = refl
-
-or_none : (b : Bool) → b || false ≡ b
-or_none true = refl
-or_none false = refl
-
 -- one more moment at the end
-largest_more : (n : ℕ) (ms : List Moment) (m : Moment) → largest n (ms ++ (m ∷ [])) ≡ max (largest n ms) (asks m.line.call)
-largest_more n [] m = refl
-largest_more n (x ∷ ms) m = largest_more (max n (asks x.line.call)) ms m
+largest_more : (prompt : Bool) (n : ℕ) (ms : List Moment) (m : Moment) → largest prompt n (ms ++ (m ∷ [])) ≡ max (largest prompt n ms) (asked_for prompt m)
+largest_more prompt n [] m = refl
+largest_more prompt n (x ∷ ms) m = largest_more prompt (max n (asked_for prompt x)) ms m
 
-due_more : (n : ℕ) (ms : List Moment) (m : Moment) → due n (ms ++ (m ∷ [])) ≡ due n ms || due_at (max (largest n ms) (asks m.line.call)) m
-due_more n [] m = or_none _
-due_more n (x ∷ ms) m =
-    let k : ℕ = max n (asks x.line.call) in
-    ap (λ b. due_at k x || b) (due_more k ms m) ∙ or_assoc (due_at k x) (due k ms) (due_at (max (largest k ms) (asks m.line.call)) m)
+due_more : (prompt : Bool) (n : ℕ) (ms : List Moment) (m : Moment)
+    → due prompt n (ms ++ (m ∷ [])) ≡ due prompt n ms || due_at (max (largest prompt n ms) (asked_for prompt m)) m
+due_more prompt n [] m = or-false _
+due_more prompt n (x ∷ ms) m =
+    let k : ℕ = max n (asked_for prompt x) in
+    ap (λ b. due_at k x || b) (due_more prompt k ms m) ∙ sym (or_assoc (due_at k x) (due prompt k ms) (due_at (max (largest prompt k ms) (asked_for prompt m)) m))
 
 asked_more : (ms : List Moment) (m : Moment) → asked_once_met (ms ++ (m ∷ [])) ≡ asked_once_met ms || ((sort_of m.line.call).asking && m.before.met)
-asked_more [] m = or_none _
+asked_more [] m = or-false _
 asked_more (x ∷ ms) m =
     ap (λ b. ((sort_of x.line.call).asking && x.before.met) || b) (asked_more ms m)
-    ∙ or_assoc ((sort_of x.line.call).asking && x.before.met) (asked_once_met ms) ((sort_of m.line.call).asking && m.before.met)
+    ∙ sym (or_assoc ((sort_of x.line.call).asking && x.before.met) (asked_once_met ms) ((sort_of m.line.call).asking && m.before.met))
 
 -- what is known of an input after the moments `earlier`
 record Known (prompt : Bool) (e : Ending) (earlier : List Moment) (v : View) : Type 0 where
   ending : v.ending ≡ e
   told : v.told ≡ asked_once_met earlier && is_some (fault_of e)
-  wide : min 16 (largest 0 earlier) ≤ v.window
-  met : due 0 earlier ≡ true → v.met ≡ true
-  narrow : prompt ≡ true → v.window ≡ min 16 (largest 0 earlier)
-  exactly : prompt ≡ true → v.met ≡ due 0 earlier
+  wide : min 16 (largest prompt 0 earlier) ≤ v.window
+  met : due prompt 0 earlier ≡ true → v.met ≡ true
+  narrow : prompt ≡ true → v.window ≡ min 16 (largest prompt 0 earlier)
+  exactly : prompt ≡ true → v.met ≡ due prompt 0 earlier
 
 known_new : (prompt : Bool) (v : View) → New prompt v → Known prompt v.ending [] v
 known_new prompt v n =
@@ -65,23 +59,16 @@ or_cases true b c X f g h e = f refl
 or_cases false true c X f g h e = g refl
 or_cases false false c X f g h e = h e
 
-or_swap : (a b c : Bool) → a || (b || c) ≡ a || (c || b)
-or_swap true b c = refl
-or_swap false true true = refl
-or_swap false true false = refl
-or_swap false false true = refl
-or_swap false false false = refl
-
 module _ (prompt : Bool) (e : Ending) where
-  step : (earlier : List Moment) (m : Moment) → Facts prompt m.line.call m.line.answer m.before m.after → Sound m.after → Known prompt e earlier m.before
+  step : (earlier : List Moment) (m : Moment) → Facts prompt m.line.call m.line m.before m.after → Sound m.after → Known prompt e earlier m.before
       → Known prompt e (earlier ++ (m ∷ [])) m.after
   step earlier m f s k =
-      let l : ℕ = largest 0 earlier in
-      let a : ℕ = asks m.line.call in
-      let lm : largest 0 (earlier ++ (m ∷ [])) ≡ max l a = largest_more 0 earlier m in
-      let dm : due 0 (earlier ++ (m ∷ [])) ≡ due 0 earlier || due_at (max l a) m = due_more 0 earlier m in
+      let l : ℕ = largest prompt 0 earlier in
+      let a : ℕ = asked_for prompt m in
+      let lm : largest prompt 0 (earlier ++ (m ∷ [])) ≡ max l a = largest_more prompt 0 earlier m in
+      let dm : due prompt 0 (earlier ++ (m ∷ [])) ≡ due prompt 0 earlier || due_at (max l a) m = due_more prompt 0 earlier m in
       let w : min 16 (max l a) ≤ m.after.window = omega (arith, k.wide, f.wide, f.keeps.window) in
-      let finds : Bool = finds_end m.line.call m.before.ahead in
+      let finds : Bool = found_end m in
       let n : prompt ≡ true → m.after.window ≡ min 16 (max l a) = λ h. omega (arith, f.keeps.narrow h, k.narrow h) in
       record {
         ending = f.keeps.ending ∙ k.ending;
@@ -93,25 +80,21 @@ module _ (prompt : Bool) (e : Ending) where
             ∙ ap (λ b. b && is_some (fault_of e)) (sym (asked_more earlier m));
         wide = rw lm w;
         met = λ h.
-            or_cases (due 0 earlier) (ltb (length m.after.ahead) (min 16 (max l a))) finds (m.after.met ≡ true) (λ d. f.keeps.stays (k.met d))
-            (λ d. let lt = below _ _ d in s.waits (omega arith)) (λ d. f.keeps.meets d) (sym dm ∙ h);
+            or_cases (due prompt 0 earlier) (ltb (length m.after.ahead) (min 16 (max l a))) finds (m.after.met ≡ true) (λ d. f.keeps.stays (k.met d))
+            (λ d. let lt = ltb-true _ _ d in s.waits (omega arith)) (λ d. f.keeps.meets d) (sym dm ∙ h);
         narrow = λ h. n h ∙ ap (λ x. min 16 x) (sym lm);
         exactly = λ h.
             f.keeps.late h
             ∙ ap (λ b. b || (finds || ltb (length m.after.ahead) m.after.window)) (k.exactly h)
-            ∙ ap (λ x. due 0 earlier || (finds || ltb (length m.after.ahead) x)) (n h)
-            ∙ or_swap (due 0 earlier) finds (ltb (length m.after.ahead) (min 16 (max l a)))
+            ∙ ap (λ x. due prompt 0 earlier || (finds || ltb (length m.after.ahead) x)) (n h)
+            ∙ ap (λ b. due prompt 0 earlier || b) (or_comm finds (ltb (length m.after.ahead) (min 16 (max l a))))
             ∙ sym dm;
       }
 
 -- what the first asking is told once the ending is met
 first_told : (t m a : Bool) (o : Option Fault) → t ≡ a && is_some o → cond (m && not t) o None ≡ cond (m && not a) o None
 first_told t false a o e = refl
-first_told t true a (Some f) e = ap (λ b. cond (not b) (Some f) None) (e ∙ and_true a)
-  where
-    and_true : (b : Bool) → b && true ≡ b
-    and_true true = refl
-    and_true false = refl
+first_told t true a (Some f) e = ap (λ b. cond (not b) (Some f) None) (e ∙ and-true a)
 first_told t true a None e = same (not t) None ∙ sym (same (not a) None)
   where
     same : (b : Bool) (x : Option Fault) → cond b x x ≡ x
@@ -119,10 +102,10 @@ first_told t true a None e = same (not t) None ∙ sym (same (not a) None)
     same false x = refl
 
 module _ (prompt : Bool) (most : ℕ) (h : 16 ≤ most) where
-  facts_of : (l : Line) (v u : View) → Sound v → Performed prompt most l v u → Facts prompt l.call l.answer v u
-  facts_of l v u s (shown, faithful, means) = facts prompt most h shown v u s l.call l.answer means
+  facts_of : (l : Line) (v u : View) → Sound v → Performed prompt most l v u → Facts prompt l.call l v u
+  facts_of l v u s (shown, faithful, means) = facts prompt most h shown v u s l.call l means
 
-  moment : (l : Line) (v u : View) → Facts prompt l.call l.answer v u → Moment
+  moment : (l : Line) (v u : View) → Facts prompt l.call l v u → Moment
   moment l v u f = record { line = l; before = v; taken = f.taken; after = u }
 
   moments : (ls : List Line) (v w : View) → Sound v → Ran prompt most ls v w → List Moment
@@ -135,7 +118,7 @@ module _ (prompt : Bool) (most : ℕ) (h : 16 ≤ most) where
   course (l ∷ ls) v w s (u, perf, sound, rest) = (refl, refl, perf, course ls u w sound rest)
 
   -- what holds by a moment's facts alone holds along the course
-  each : (P : Moment → Type 0) → ((l : Line) (v u : View) (f : Facts prompt l.call l.answer v u) → Sound u → P (moment l v u f)) → (earlier : List Moment) (ls : List Line) (v w : View) (s : Sound v)
+  each : (P : Moment → Type 0) → ((l : Line) (v u : View) (f : Facts prompt l.call l v u) → Sound u → P (moment l v u f)) → (earlier : List Moment) (ls : List Line) (v w : View) (s : Sound v)
       (r : Ran prompt most ls v w) → Along (λ _ m. P m) earlier (moments ls v w s r)
   unfolding moments
   each P from earlier [] v w s r = tt
@@ -145,7 +128,7 @@ module _ (prompt : Bool) (most : ℕ) (h : 16 ≤ most) where
 
   -- what holds by them and by what is known of the moments before holds along the course
   knowing : (e : Ending) (P : List Moment → Moment → Type 0)
-      → ((earlier : List Moment) (l : Line) (v u : View) (f : Facts prompt l.call l.answer v u) → Known prompt e earlier v → Known prompt e (earlier ++ (moment l v u f ∷ [])) u
+      → ((earlier : List Moment) (l : Line) (v u : View) (f : Facts prompt l.call l v u) → Known prompt e earlier v → Known prompt e (earlier ++ (moment l v u f ∷ [])) u
       → P earlier (moment l v u f)) → (earlier : List Moment) (ls : List Line) (v w : View) (s : Sound v) (r : Ran prompt most ls v w) → Known prompt e earlier v
       → Along P earlier (moments ls v w s r)
   unfolding moments moment
@@ -168,7 +151,8 @@ module _ (prompt : Bool) (most : ℕ) (h : 16 ≤ most) where
       record {
         whole = whole ls v w s r;
         moves = each (λ m. m.before.ahead ≡ m.taken ++ m.after.ahead) (λ l v u f _. f.moves) [] ls v w s r;
-        took = each (λ m. Took m.line.call m.line.answer m.before.ahead m.taken) (λ l v u f _. f.took) [] ls v w s r;
+        took = each (λ m. Took m.line.call m.line m.before.ahead m.taken) (λ l v u f _. f.took) [] ls v w s r;
+        counts = each (λ m. Counts m.line.answer m.taken) (λ l v u f _. f.counts) [] ls v w s r;
       }
 
   asked_at : (e : Ending) (earlier : List Moment) (l : Line) (v : View) → Tells_of l.call l.answer v → Known prompt e earlier v → l.call ≡ TakeSourceError
@@ -197,8 +181,8 @@ module _ (prompt : Bool) (most : ℕ) (h : 16 ≤ most) where
             (λ earlier l v u f k _. asked_at e earlier l v f.tells k) [] ls v w s r k;
         stays = each (λ m. m.before.met ≡ true → m.after.met ≡ true) (λ l v u f _. f.keeps.stays) [] ls v w s r;
         waits = each (λ m. length m.after.ahead < m.after.window → m.after.met ≡ true) (λ l v u f sound. sound.waits) [] ls v w s r;
-        met = knowing e (λ earlier m. due 0 (earlier ++ (m ∷ [])) ≡ true → m.after.met ≡ true) (λ earlier l v u f _ k. k.met) [] ls v w s r k;
-        exactly = λ h. knowing e (λ earlier m. m.after.met ≡ due 0 (earlier ++ (m ∷ []))) (λ earlier l v u f _ k. k.exactly h) [] ls v w s r k;
+        met = knowing e (λ earlier m. due prompt 0 (earlier ++ (m ∷ [])) ≡ true → m.after.met ≡ true) (λ earlier l v u f _ k. k.met) [] ls v w s r k;
+        exactly = λ h. knowing e (λ earlier m. m.after.met ≡ due prompt 0 (earlier ++ (m ∷ []))) (λ earlier l v u f _ k. k.exactly h) [] ls v w s r k;
         closes =
             knowing e
             (λ earlier m. m.line.call ≡ Close

@@ -1,5 +1,8 @@
+pub mod Made
 pub mod Runs
+pub mod Fronts
 pub mod Facts
 pub mod Courses
 pub mod Shown
 pub mod Alike
+pub mod Roomless

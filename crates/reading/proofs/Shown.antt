@@ -1,12 +1,11 @@
 -- Tests of inputs that show the same characters within their reach. Assumes nothing.
-use Rattle.std.proofs.Common.{◌≡◌, ℕ, suc, ◌<◌, ◌≤◌, Bool, true, cond, ◌&&◌, eqb, List, [], ◌∷◌, length, Some, None, Option, sym, refl, ap, ◌∙◌, ap₂, arith}
-use Rattle.char_traits.specs.Chars.{blank_or_breakz}
+use Rattle.std.proofs.Common.{◌≡◌, ℕ, suc, ◌<◌, ◌≤◌, Bool, true, cond, ◌&&◌, eqb, List, [], ◌∷◌, length, Option, sym, refl, ap, ◌∙◌, ap₂, arith}
 use Rattle.input.specs.declared.Marker.{Marker}
-use Rattle.input.specs.declared.Marker.TheVariants.{Start, End}
 use Rattle.input.specs.View.{View}
 use Rattle.input.specs.Calls.{none_left}
-use Rattle.input.specs.Tests.{flag, found, without_nul, Matches, narrow as narrow_match, match, Compares, none, same, ComparesAll, none as none_of, all, marker_in, IsMarker, narrow, marked, plain_goes_on}
+use Rattle.input.specs.Tests.{flag, found, without_nul, Matches, narrow as narrow_match, match, Compares, none, same, ComparesAll, none as none_of, all, IsMarker, narrow, marked, plain_goes_on}
 use Rattle.input.proofs.Keeping.{never}
+use Rattle.input.proofs.Marking.{marker_same}
 use Rattle.reading.specs.declared.call.Test.{Test}
 use Rattle.reading.specs.declared.call.Test.TheVariants.{Z, Class, CharIs, NthIs, TwoAre, ThreeAre, Marker as MarkerIs, PlainScalar}
 use Rattle.reading.specs.Line.{Tests, class_of, marker_of}
@@ -40,19 +39,6 @@ all_same ws m n f g a b h k plain e (none_of s i) (none_of t j) = i ∙ sym j
 all_same ws m n f g a b h k plain e (none_of s i) (all t j) = absurd (never (sym s ∙ t))
 all_same ws m n f g a b h k plain e (all s i) (none_of t j) = absurd (never (sym t ∙ s))
 all_same ws m n f g a b h k plain e (all s i) (all t j) = matches_same ws m n f g a b h k plain e i j
-
-marker_by : ℕ → ℕ → ℕ → ℕ → Option Marker
-marker_by a b c d =
-    cond (blank_or_breakz d) (cond (eqb a 0x2D && (eqb b 0x2D && eqb c 0x2D)) (Some Start) (cond (eqb a 0x2E && (eqb b 0x2E && eqb c 0x2E)) (Some End) None)) None
-
-marker_same : (f g : ℕ → ℕ) → Upto 4 f g → marker_in f ≡ marker_in g
-unfolding marker_by
-marker_same f g e =
-    let zero = e 0 (omega arith) in
-    let one = e 1 (omega arith) in
-    let two = e 2 (omega arith) in
-    let three = e 3 (omega arith) in
-    λ i. marker_by (zero i) (one i) (two i) (three i)
 
 is_marker_same : (which : Option Marker → Bool) (m n : ℕ) (f g : ℕ → ℕ) (a b : ℕ × List ℕ) → 4 ≤ m → 4 ≤ n → Upto 4 f g → IsMarker which m f a → IsMarker which n g b → a ≡ b
 is_marker_same which m n f g a b h k e (narrow l i) t = absurd (omega arith)

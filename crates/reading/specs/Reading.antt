@@ -1,15 +1,21 @@
 -- A reading: the calls of a list, each with its answer, as one input goes through them. Assumes nothing.
-use Rattle.std.specs.Prelude.{◌≡◌, ℕ, ◌<◌, ◌≤◌, min, max, Bool, true, false, cond, not, ◌&&◌, ◌||◌, List, [], ◌∷◌, ◌++◌, length, take, None, Option, nat_lt}
+use Rattle.std.specs.Prelude.{◌≡◌, ℕ, ◌-◌, ◌<◌, ◌≤◌, min, max, Bool, true, false, cond, not, ◌&&◌, ◌||◌, List, [], ◌∷◌, ◌++◌, length, take, drop, None, Option, Result, nat_lt}
+use Rattle.std.specs.Str.{chars}
 use Rattle.error.specs.Numbers.{fault_of}
+use Rattle.error.specs.declared.Refusal.{Refusal}
 use Rattle.input.specs.View.{View, Sound, New}
 use Rattle.input.specs.Calls.{none_left, closed, closing_of}
+use Rattle.runs.specs.declared.Fetched.{Fetched}
+use Rattle.runs.specs.declared.WhitespaceResult.{WhitespaceResult}
+use Rattle.reading.specs.declared.call.ScanCall.{ScanCall}
+use Rattle.reading.specs.declared.call.ScanCall.TheVariants.{SkipRun, FetchRun, SkipWsToEol, SkipWsToEolBlanks, SkipPlainScalarChunk, FetchPlainScalarChunk}
 use Rattle.reading.specs.declared.call.Call.{Call}
-use Rattle.reading.specs.declared.call.Call.TheVariants.{Lookahead, Added, LookCh, NextCh, Read, ReadNonBreakz, Skip, SkipN, Peek, PeekNth, Test as TestCall, TakeSourceError, Open, Close}
+use Rattle.reading.specs.declared.call.Call.TheVariants.{Lookahead, Added, LookCh, NextCh, Read, ReadNonBreakz, Skip, SkipN, Peek, PeekNth, Test as TestCall, Scan, TakeSourceError, Open, Close}
 use Rattle.reading.specs.declared.call.Answer.{Answer}
-use Rattle.reading.specs.declared.call.Answer.TheVariants.{Character, Next}
+use Rattle.reading.specs.declared.call.Answer.TheVariants.{Nothing, Character, Next, Tested, Asked, Closed, Count, Fetch, Blanks, ToEol, SkippedChunk, FetchedChunk}
 use Rattle.reading.specs.declared.call.Step.{Step}
 use Rattle.reading.specs.Line.{Line, line_of, answered, next_values, asked_values, Performed}
-use Rattle.reading.specs.Sorts.{sort_of, asks}
+use Rattle.reading.specs.Sorts.{scan_sort, sort_of, overfull, asks}
 
 -- the lines of a list's steps, before its calls were made and after
 abbrev pub log_of : List Step → List Step → List Line
@@ -17,12 +23,12 @@ log_of [] ts = []
 log_of (s ∷ ss) [] = []
 log_of (s ∷ ss) (t ∷ ts) = line_of s t ∷ log_of ss ts
 
--- the calls of a list stay as they are
+-- the calls of a list and their filled counts stay as they are
 abbrev pub SameCalls : List Step → List Step → Type 0
 SameCalls [] [] = Unit {0}
 SameCalls [] (t ∷ ts) = ⊥
 SameCalls (s ∷ ss) [] = ⊥
-SameCalls (s ∷ ss) (t ∷ ts) = (t.call ≡ s.call) × SameCalls ss ts
+SameCalls (s ∷ ss) (t ∷ ts) = (t.call ≡ s.call) × (t.filled ≡ s.filled) × SameCalls ss ts
 
 -- the calls were made one after another, from the meaning v of the input to w
 abbrev pub Ran : Bool → ℕ → List Line → View → View → Type 0
@@ -31,21 +37,41 @@ Ran prompt most (l ∷ ls) v w = (u : View) × Performed prompt most l v u × So
 
 -- THE SAME ANSWERS
 
--- the calls that two inputs are compared by, and their answers
-abbrev pub calls : List Line → List Call
+-- what a call is given: its room and filled count matter only if it fetches
+pub record Given : Type 0 where
+  pub call : Call
+  pub room : List ℕ
+  pub filled : ℕ
+
+-- its answer, by number and values, and every byte of its room then
+pub record Got : Type 0 where
+  pub answer : ℕ × List ℕ
+  pub left : List ℕ
+
+abbrev pub room_of : Call → List ℕ → List ℕ
+room_of k room = cond (sort_of k).fetches room []
+
+abbrev pub given : Line → Given
+given l = record { call = l.call; room = room_of l.call l.room; filled = cond (sort_of l.call).fetches l.filled 0 }
+
+abbrev pub got : Line → Got
+got l = record { answer = answered l.answer; left = room_of l.call l.left }
+
+-- the calls that two inputs are compared by, and what came of them
+abbrev pub calls : List Line → List Given
 calls [] = []
-calls (l ∷ ls) = cond (sort_of l.call).compared (l.call ∷ calls ls) (calls ls)
+calls (l ∷ ls) = cond (sort_of l.call).compared (given l ∷ calls ls) (calls ls)
 
-abbrev pub answers : List Line → List (ℕ × List ℕ)
+abbrev pub answers : List Line → List Got
 answers [] = []
-answers (l ∷ ls) = cond (sort_of l.call).compared (answered l.answer ∷ answers ls) (answers ls)
+answers (l ∷ ls) = cond (sort_of l.call).compared (got l ∷ answers ls) (answers ls)
 
--- a reading list: no peek or test reaches further than the lookaheads before it asked for
-abbrev pub Listed : ℕ → List Call → Type 0
+-- a reading list: no chunk, and no peek or test reaches further than the lookaheads before it asked for
+abbrev pub Listed : ℕ → List Given → Type 0
 Listed reach [] = Unit {0}
-Listed reach (k ∷ ks) = ((sort_of k).plain ≡ true) × ((sort_of k).reaches ≤ reach) × Listed (max reach (sort_of k).lengthens) ks
+Listed reach (k ∷ ks) = ((sort_of k.call).plain ≡ true) × ((sort_of k.call).reaches ≤ reach) × Listed (max reach (sort_of k.call).lengthens) ks
 
--- two inputs with the same characters ahead give one list the same answers, whatever lookaheads are added
+-- two inputs with the same characters ahead give one list the same answers and leave the same bytes in its rooms, whatever lookaheads are added
 abbrev pub Same : List Line → List Line → View → View → Type 0
 Same ls ms v u = calls ls ≡ calls ms → Listed 0 (calls ls) → v.ahead ≡ u.ahead → answers ls ≡ answers ms
 
@@ -76,60 +102,98 @@ abbrev pub joined : List Moment → List ℕ
 joined [] = []
 joined (m ∷ ms) = m.taken ++ joined ms
 
+-- the characters that a fetch appended, up to the filled count that it answers
+abbrev pub appended : Line → ℕ → List ℕ
+appended l filled = chars (take (filled - l.filled) (drop l.filled l.left))
+
+-- a fetch took what it appended; a counted skip took as many as it tells
+abbrev pub ScanTook : ScanCall → Line → List ℕ → List ℕ → Type 0
+ScanTook (SkipRun k) l ahead taken = (n : ℕ) × (l.answer ≡ Count n) × (taken ≡ take n ahead)
+ScanTook (FetchRun k) l ahead taken = (r : Fetched) × (l.answer ≡ Fetch r) × (taken ≡ appended l r.filled)
+ScanTook (SkipWsToEol tabs) l ahead taken = (n : ℕ) × (r : Result WhitespaceResult Refusal) × (l.answer ≡ ToEol n r) × (taken ≡ take n ahead)
+ScanTook (SkipWsToEolBlanks tabs) l ahead taken = (n : ℕ) × (r : WhitespaceResult) × (l.answer ≡ Blanks n r) × (taken ≡ take n ahead)
+ScanTook (SkipPlainScalarChunk count in_flow) l ahead taken = (stopped : Bool) × (n : ℕ) × (l.answer ≡ SkippedChunk stopped n) × (taken ≡ take n ahead)
+ScanTook (FetchPlainScalarChunk count in_flow) l ahead taken = (stopped : Bool) × (r : Fetched) × (l.answer ≡ FetchedChunk stopped r) × (taken ≡ appended l r.filled)
+
 -- A read took the character it answers, if one was ahead; a skip of n took n, or all that was ahead if that is fewer. Every other call took nothing.
-abbrev pub Took : Call → Answer → List ℕ → List ℕ → Type 0
-Took (Lookahead n) a ahead taken = taken ≡ []
-Took (Added n) a ahead taken = taken ≡ []
-Took LookCh a ahead taken = taken ≡ []
-Took NextCh a ahead taken = taken ≡ []
-Took Read a ahead taken = (c : ℕ) × (a ≡ Character c) × (taken ≡ cond (none_left ahead) [] (c ∷ []))
-Took ReadNonBreakz a ahead taken = (r : Option ℕ) × (a ≡ Next r) × (taken ≡ next_values r)
-Took Skip a ahead taken = taken ≡ take 1 ahead
-Took (SkipN n) a ahead taken = taken ≡ take n ahead
-Took Peek a ahead taken = taken ≡ []
-Took (PeekNth n) a ahead taken = taken ≡ []
-Took (TestCall t) a ahead taken = taken ≡ []
-Took TakeSourceError a ahead taken = taken ≡ []
-Took Open a ahead taken = taken ≡ []
-Took Close a ahead taken = taken ≡ []
+abbrev pub Took : Call → Line → List ℕ → List ℕ → Type 0
+Took (Lookahead n) l ahead taken = taken ≡ []
+Took (Added n) l ahead taken = taken ≡ []
+Took LookCh l ahead taken = taken ≡ []
+Took NextCh l ahead taken = taken ≡ []
+Took Read l ahead taken = (c : ℕ) × (l.answer ≡ Character c) × (taken ≡ cond (none_left ahead) [] (c ∷ []))
+Took ReadNonBreakz l ahead taken = (r : Option ℕ) × (l.answer ≡ Next r) × (taken ≡ next_values r)
+Took Skip l ahead taken = taken ≡ take 1 ahead
+Took (SkipN n) l ahead taken = taken ≡ take n ahead
+Took Peek l ahead taken = taken ≡ []
+Took (PeekNth n) l ahead taken = taken ≡ []
+Took (TestCall t) l ahead taken = taken ≡ []
+Took (Scan k) l ahead taken = ScanTook k l ahead taken
+Took TakeSourceError l ahead taken = taken ≡ []
+Took Open l ahead taken = taken ≡ []
+Took Close l ahead taken = taken ≡ []
+
+-- a count that is told is the number of characters taken
+abbrev pub Counts : Answer → List ℕ → Type 0
+Counts Nothing taken = Unit {0}
+Counts (Character c) taken = Unit {0}
+Counts (Next r) taken = Unit {0}
+Counts (Tested r) taken = Unit {0}
+Counts (Asked r) taken = Unit {0}
+Counts (Closed r) taken = Unit {0}
+Counts (Count n) taken = n ≡ length taken
+Counts (Fetch r) taken = r.count ≡ length taken
+Counts (Blanks n r) taken = n ≡ length taken
+Counts (ToEol n r) taken = n ≡ length taken
+Counts (SkippedChunk stopped n) taken = n ≡ length taken
+Counts (FetchedChunk stopped r) taken = r.count ≡ length taken
 
 pub record Kept (v w : View) (ms : List Moment) : Type 0 where
   pub whole : joined ms ++ w.ahead ≡ v.ahead
   pub moves : Along (λ _ m. m.before.ahead ≡ m.taken ++ m.after.ahead) [] ms
-  pub took : Along (λ _ m. Took m.line.call m.line.answer m.before.ahead m.taken) [] ms
+  pub took : Along (λ _ m. Took m.line.call m.line m.before.ahead m.taken) [] ms
+  pub counts : Along (λ _ m. Counts m.line.answer m.taken) [] ms
 
 -- THE ENDING IS TOLD
 
--- a read, a skip or the next-character call looked for a next character and found the end
-abbrev pub finds_end : Call → List ℕ → Bool
-finds_end (Lookahead n) ahead = false
-finds_end (Added n) ahead = false
-finds_end LookCh ahead = false
-finds_end NextCh ahead = none_left ahead
-finds_end Read ahead = none_left ahead
-finds_end ReadNonBreakz ahead = none_left ahead
-finds_end Skip ahead = nat_lt (length ahead) 1
-finds_end (SkipN n) ahead = nat_lt (length ahead) n
-finds_end Peek ahead = false
-finds_end (PeekNth n) ahead = false
-finds_end (TestCall t) ahead = false
-finds_end TakeSourceError ahead = false
-finds_end Open ahead = false
-finds_end Close ahead = false
+-- A read, a skip, a scan or the next-character call looked for a next character and found the end. A chunk and a scan refused 6 look for none.
+abbrev pub finds_end : Call → Line → List ℕ → List ℕ → Bool
+finds_end (Lookahead n) l ahead after = false
+finds_end (Added n) l ahead after = false
+finds_end LookCh l ahead after = false
+finds_end NextCh l ahead after = none_left ahead
+finds_end Read l ahead after = none_left ahead
+finds_end ReadNonBreakz l ahead after = none_left ahead
+finds_end Skip l ahead after = nat_lt (length ahead) 1
+finds_end (SkipN n) l ahead after = nat_lt (length ahead) n
+finds_end Peek l ahead after = false
+finds_end (PeekNth n) l ahead after = false
+finds_end (TestCall t) l ahead after = false
+finds_end (Scan k) l ahead after = (scan_sort k).whole && (not (overfull k l) && none_left after)
+finds_end TakeSourceError l ahead after = false
+finds_end Open l ahead after = false
+finds_end Close l ahead after = false
+
+-- the count that the call of a moment asks for, and whether it found the end
+abbrev pub asked_for : Bool → Moment → ℕ
+asked_for prompt m = asks prompt m.line.call m.line
+
+abbrev pub found_end : Moment → Bool
+found_end m = finds_end m.line.call m.line m.before.ahead m.after.ahead
 
 -- the largest count asked for, or n if that is larger
-abbrev pub largest : ℕ → List Moment → ℕ
-largest n [] = n
-largest n (m ∷ ms) = largest (max n (asks m.line.call)) ms
+abbrev pub largest : Bool → ℕ → List Moment → ℕ
+largest prompt n [] = n
+largest prompt n (m ∷ ms) = largest prompt (max n (asked_for prompt m)) ms
 
 -- a call that makes the ending due, where n is the largest count asked for up to it
 abbrev pub due_at : ℕ → Moment → Bool
-due_at n m = nat_lt (length m.after.ahead) (min 16 n) || finds_end m.line.call m.before.ahead
+due_at n m = nat_lt (length m.after.ahead) (min 16 n) || found_end m
 
 -- the ending is due once one of the calls made it so
-abbrev pub due : ℕ → List Moment → Bool
-due n [] = false
-due n (m ∷ ms) = due_at (max n (asks m.line.call)) m || due (max n (asks m.line.call)) ms
+abbrev pub due : Bool → ℕ → List Moment → Bool
+due prompt n [] = false
+due prompt n (m ∷ ms) = due_at (max n (asked_for prompt m)) m || due prompt (max n (asked_for prompt m)) ms
 
 -- one of the calls was an asking once the ending was met
 abbrev pub asked_once_met : List Moment → Bool
@@ -141,9 +205,9 @@ pub record Told (prompt : Bool) (v : View) (ms : List Moment) : Type 0 where
   pub asked : Along (λ earlier m. m.line.call ≡ TakeSourceError → answered m.line.answer ≡ (4, asked_values (cond (m.before.met && not (asked_once_met earlier)) (fault_of v.ending) None))) [] ms
   pub stays : Along (λ _ m. m.before.met ≡ true → m.after.met ≡ true) [] ms
   pub waits : Along (λ _ m. length m.after.ahead < m.after.window → m.after.met ≡ true) [] ms
-  pub met : Along (λ earlier m. due 0 (earlier ++ (m ∷ [])) ≡ true → m.after.met ≡ true) [] ms
+  pub met : Along (λ earlier m. due prompt 0 (earlier ++ (m ∷ [])) ≡ true → m.after.met ≡ true) [] ms
   -- a prompt kind of input meets its ending exactly when it is due
-  pub exactly : prompt ≡ true → Along (λ earlier m. m.after.met ≡ due 0 (earlier ++ (m ∷ []))) [] ms
+  pub exactly : prompt ≡ true → Along (λ earlier m. m.after.met ≡ due prompt 0 (earlier ++ (m ∷ []))) [] ms
   pub closes : Along (λ _ m. m.line.call ≡ Close → answered m.line.answer ≡ (5, (closed (closing_of m.before.ahead v.ending)).0 ∷ (closed (closing_of m.before.ahead v.ending)).1)) [] ms
 
 -- the course of a reading, with what was taken and, of a new input, how its ending was told

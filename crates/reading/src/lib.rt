@@ -4,3 +4,4 @@
 pub mod call;
 pub mod list;
 pub mod perform;
+pub mod scanner;

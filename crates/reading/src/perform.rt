@@ -3,9 +3,10 @@
 ghost use Rattle.std.specs.Prelude.{◌≡◌};
 ghost use Rattle.error.specs.Numbers.{outcome};
 ghost use Rattle.input.specs.Tests.{flag};
-ghost use Rattle.reading.specs.Line.{class_of, Tests, Means};
+ghost use Rattle.reading.specs.Line.{class_of, Tests, line_of, Means, Performed};
 
-use crate::call::{Answer, Call, ClassTest, MarkerTest, Test};
+use crate::call::{Answer, Call, ClassTest, MarkerTest, Step, Test};
+use crate::scanner::Scanner;
 use error::Refusal;
 use input::ticket::Reading;
 use input::{Input, calls};
@@ -43,32 +44,15 @@ pub fn test<I: Input>(input: &I, test: Test) -> Result<bool, Refusal>
     }
 }
 
-/// Closes the reading that is open; where none is, one is opened for it.
-fn close<I: Input>(input: &mut I, held: Option<Reading>) -> Answer
-    ensures { Means I.Input.prompt I.Input.most (I.Input.shown input.old) Call.Close result (I.Input.view input.old) (I.Input.view input.new) }
-{
-    let reading = match held {
-        Some(reading) => reading,
-        None => Reading::open(input),
-    };
-    Answer::Closed(reading.close(input))
-}
-
-/// Opens a reading, unless one is open.
-fn open<I: Input>(input: &I, held: Option<Reading>) -> Reading {
-    match held {
-        Some(reading) => reading,
-        None => Reading::open(input),
-    }
-}
-
-/// Makes a call. The ticket of an open reading is handed on, and closing takes it.
-pub fn answer_to<I: Input>(
+/// Makes a call; a fetch has the room that is lent. The ticket of an open reading is handed on, and closing takes it.
+pub fn answer_to<I: Input, S: Scanner<I>>(
     input: &mut I,
     call: Call,
+    room: &mut [u8],
+    filled: usize,
     held: Option<Reading>,
 ) -> (Answer, Option<Reading>)
-    ensures { Means I.Input.prompt I.Input.most (I.Input.shown input.old) call result.0 (I.Input.view input.old) (I.Input.view input.new) }
+    ensures { Means I.Input.prompt I.Input.most (I.Input.shown input.old) call (record { call = call; room = room.old; filled = filled; answer = result.0; left = room.new }) (I.Input.view input.old) (I.Input.view input.new) }
 {
     match call {
         Call::Lookahead(n) | Call::Added(n) => {
@@ -90,8 +74,30 @@ pub fn answer_to<I: Input>(
         Call::Peek => (Answer::Character(calls::peek(input)), held),
         Call::PeekNth(n) => (Answer::Character(input.peek_nth(n)), held),
         Call::Test(which) => (Answer::Tested(test(input, which)), held),
+        Call::Scan(call) => (S::scan(input, call, room, filled), held),
         Call::TakeSourceError => (Answer::Asked(input.take_source_error()), held),
-        Call::Open => (Answer::Nothing, Some(open(input, held))),
-        Call::Close => (close(input, held), None),
+        Call::Open => (
+            Answer::Nothing,
+            Some(held.unwrap_or_else(|| Reading::open(input))),
+        ),
+        Call::Close => (Answer::Closed(Reading::close_opened(held, input)), None),
     }
+}
+
+/// Makes the call of a step, and keeps its answer there.
+pub fn perform<I: Input, S: Scanner<I>>(
+    input: &mut I,
+    step: &mut Step,
+    held: Option<Reading>,
+) -> Option<Reading>
+    ensures call { step.new.call ≡ step.old.call }
+    ensures filled { step.new.filled ≡ step.old.filled }
+    ensures made { Performed I.Input.prompt I.Input.most (line_of step.old step.new) (I.Input.view input.old) (I.Input.view input.new) }
+{
+    let (answer, next) = match &mut step.room {
+        Some(room) => answer_to::<I, S>(input, step.call, room, step.filled, held),
+        None => answer_to::<I, S>(input, step.call, &mut [], step.filled, held),
+    };
+    step.answer = answer;
+    next
 }

@@ -1,11 +1,13 @@
 -- What was drawn so far. Assumes nothing.
-use Rattle.std.proofs.Common.{◌≡◌, ℕ, true, false, List, [], ◌∷◌, ◌++◌, is_some, Some, None, Option, sym, refl, ap, ◌∙◌, append_assoc}
-use Rattle.error.specs.declared.Ending.{Ending}
+use Rattle.std.proofs.Common.{◌≡◌, ℕ, true, false, List, [], ◌∷◌, ◌++◌, is_some, Ok, Some, None, Option, sym, refl, ap, ◌∙◌, subst, append_assoc}
+use Rattle.error.specs.Numbers.{Ending}
 use Rattle.input.proofs.Keeping.{never}
+use Rattle.source.specs.Steps.{Steps}
+use Rattle.source.specs.Met.{coming, finishing}
 use Rattle.receiver.specs.declared.hold.Hold.{Hold}
 use Rattle.receiver.specs.declared.drawn.Drawn.{Drawn}
 use Rattle.receiver.specs.Hold.{held}
-use Rattle.receiver.specs.Drawn.{coming, finishing, all_of, finish}
+use Rattle.receiver.specs.Drawn.{all_of, finish}
 
 open_coming : (m : Option Ending) (cs : List ℕ) → is_some m ≡ false → coming m cs ≡ cs
 open_coming None cs u = refl
@@ -14,6 +16,10 @@ open_coming (Some e) cs u = absurd (never (sym u))
 open_finish : (m : Option Ending) (e : Ending) → is_some m ≡ false → finishing m e ≡ e
 open_finish None e u = refl
 open_finish (Some f) e u = absurd (never (sym u))
+
+-- a step that gave a character
+pub gives : (r : Option ℕ) (before after : List ℕ) (ending : Ending) (c : ℕ) → r ≡ Some c → Steps (Ok r) before after ending → before ≡ c ∷ after
+gives r before after ending c e s = subst (λ (o : Option ℕ). Steps (Ok o) before after ending) e s
 
 module _ {S : Type 0} (ahead : S → List ℕ) (ending : S → Ending) (x : Drawn S) where
   pub record Drawing (y : Drawn S) : Type 0 where

@@ -1,16 +1,9 @@
 -- A row of places, shifted down. Assumes nothing.
-use Rattle.std.proofs.Common.{◌≡◌, ℕ, zero, suc, ◌-◌, ◌<◌, ◌≤◌, true, List, [], ◌∷◌, ◌++◌, length, get_or, take, drop, set, Some, sym, refl, ap, ◌∙◌, arith}
+use Rattle.std.proofs.Common.{◌≡◌, ℕ, zero, suc, ◌-◌, ◌<◌, ◌≤◌, true, List, [], ◌∷◌, ◌++◌, length, get_or, take, drop, sym, refl, ap, ◌∙◌, arith}
 use lib.Utf8.{scalar, scalars}
 use Rattle.std.proofs.lemmas.List.{take-append-le}
-use Rattle.std.proofs.lemmas.Bool.{and_parts, and_from}
-use Rattle.input.specs.Calls.{first_of}
-use Rattle.input.specs.Held.{held_characters}
-use Rattle.receiver.specs.Chars.{scalars_take}
-
-pub first_taken : (n : ℕ) (xs : List ℕ) → 0 < n → 0 < length xs → first_of (take n xs) ≡ Some (get_or xs 0 0)
-first_taken zero xs h l = absurd (omega arith)
-first_taken (suc n) [] h l = absurd (omega arith)
-first_taken (suc n) (x ∷ xs) h l = refl
+use Rattle.std.proofs.lemmas.Bool.{and_parts}
+use Rattle.input.specs.Held.{held_characters, scalars_take}
 
 pub shifted : (n : ℕ) (xs : List ℕ) → 0 < n → n ≤ length xs → take n xs ≡ get_or xs 0 0 ∷ take (n - 1) (drop 1 xs ++ take 1 xs)
 shifted zero xs h l = absurd (omega arith)
@@ -18,11 +11,6 @@ shifted (suc n) [] h l = absurd (omega arith)
 shifted (suc n) (x ∷ xs) h l =
     let e : suc n - 1 ≡ n = omega arith in
     ap (λ ys. x ∷ ys) (sym (take-append-le n xs (x ∷ []) (omega arith)) ∙ ap (λ k. take k (xs ++ (x ∷ []))) (sym e))
-
-pub scalars_set : (xs : List ℕ) (k c : ℕ) → scalar c ≡ true → scalars xs ≡ true → scalars (set xs k c) ≡ true
-scalars_set [] k c s f = f
-scalars_set (x ∷ xs) zero c s f = and_from (scalar c) _ s (and_parts (scalar x) _ f).1
-scalars_set (x ∷ xs) (suc k) c s f = let p = and_parts (scalar x) _ f in and_from (scalar x) _ p.0 (scalars_set xs k c s p.1)
 
 pub scalars_shifted : (xs : List ℕ) → scalars xs ≡ true → scalars (drop 1 xs ++ take 1 xs) ≡ true
 scalars_shifted [] f = refl

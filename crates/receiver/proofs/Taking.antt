@@ -1,18 +1,18 @@
 -- The first character is taken, and the stash filled again. Assumes nothing.
-use Rattle.std.proofs.Common.{◌≡◌, ℕ, ◌<◌, ◌≤◌, Bool, false, eqb, List, [], ◌∷◌, ◌++◌, length, drop, is_some, Some, None, Option, sym, refl, ap, ◌∙◌, subst, arith}
-use lib.Dec.{eqb-suc-zero}
+use Rattle.std.proofs.Common.{◌≡◌, ℕ, ◌<◌, ◌≤◌, Bool, false, List, [], ◌++◌, length, drop, is_some, Some, None, Option, sym, refl, ap, ◌∙◌, subst, arith}
 use lib.Utf8.{encodes}
 use Rattle.error.specs.Limit.{text_limit}
-use Rattle.error.specs.declared.Ending.{Ending}
+use Rattle.error.specs.Numbers.{Ending}
 use Rattle.source.specs.Steps.{Gives}
 use Rattle.input.specs.View.{View, Sound, New}
-use Rattle.input.specs.Calls.{none_left, first_of, Takes}
+use Rattle.input.specs.Calls.{first_of, Takes}
 use Rattle.input.proofs.Keeping.{never, none_is}
+use Rattle.source.specs.Met.{coming}
 use Rattle.receiver.specs.declared.hold.Hold.{Hold}
 use Rattle.receiver.specs.declared.drawn.Drawn.{Drawn}
 use Rattle.receiver.specs.declared.stash.Stash.{Stash}
 use Rattle.receiver.specs.Hold.{held, held_length}
-use Rattle.receiver.specs.Drawn.{coming, coming_met, all_of, finish, Draws}
+use Rattle.receiver.specs.Drawn.{coming_met, all_of, finish, Draws}
 use Rattle.receiver.specs.Stash.{seen}
 
 gives_first : (r : Option ℕ) (q rest come : List ℕ) → Gives r q rest → (length q < 16 → come ≡ []) → r ≡ first_of (q ++ come)
@@ -24,10 +24,6 @@ gives_rest None q rest come g none =
     let e = none (omega (arith, ap length g.0)) in
     ap (λ xs. xs ++ come) g.1 ∙ e ∙ sym (ap (λ xs. drop 1 (xs ++ come)) g.0 ∙ ap (drop 1) e)
 gives_rest (Some c) q rest come g none = sym (ap (λ xs. drop 1 (xs ++ come)) g)
-
-pub z_is : (q come : List ℕ) (n : ℕ) → length q ≡ n → (n < 16 → come ≡ []) → eqb n 0 ≡ none_left (q ++ come)
-z_is [] come n e none = ap (λ k. eqb k 0) (sym e) ∙ sym (ap none_left (none (omega arith)))
-z_is (c ∷ q) come n e none = ap (λ k. eqb k 0) (sym e) ∙ eqb-suc-zero (length q)
 
 module _ {S : Type 0} (ahead : S → List ℕ) (ending : S → Ending) where
   abbrev pub view_of : Drawn S → Bool → View

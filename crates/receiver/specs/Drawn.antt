@@ -1,19 +1,10 @@
 -- A source, and what was drawn from it. Assumes nothing.
 use Rattle.std.specs.Prelude.{◌≡◌, ℕ, ◌<◌, true, List, [], ◌++◌, is_some, Some, None, Option, refl}
 use Rattle.std.proofs.Common.{arith}
-use Rattle.error.specs.declared.Ending.{Ending}
+use Rattle.error.specs.Numbers.{Ending}
+use Rattle.source.specs.Met.{coming, finishing}
 use Rattle.receiver.specs.declared.drawn.Drawn.{Drawn}
 use Rattle.receiver.specs.Hold.{held}
-
--- what is still to come: nothing once the ending is met, since the source is not stepped after that
-abbrev pub coming : Option Ending → List ℕ → List ℕ
-coming None ahead = ahead
-coming (Some e) ahead = []
-
--- the ending that was met, or the source's
-abbrev pub finishing : Option Ending → Ending → Ending
-finishing None ending = ending
-finishing (Some e) ending = e
 
 abbrev pub all_of : {S : Type 0} → (S → List ℕ) → Drawn S → List ℕ
 all_of ahead x = held x.hold ++ coming x.met (ahead x.source)

@@ -1,5 +1,4 @@
 pub mod SlotLimit
-pub mod Chars
 pub mod Packets
 pub mod Hold
 pub mod Drawn

@@ -3,13 +3,13 @@ use Rattle.std.specs.Prelude.{◌≡◌, ℕ, ◌<◌, ◌≤◌, true, List, le
 use Rattle.std.proofs.Common.{arith, length-append}
 use Rattle.std.proofs.Math.Utf8.{scalars, encodes}
 use Rattle.error.specs.Limit.{text_limit}
-use Rattle.error.specs.declared.Ending.{Ending}
+use Rattle.error.specs.Numbers.{Ending}
 use Rattle.input.specs.View.{View, Sound}
-use Rattle.input.specs.Held.{held_characters, held_short, held_shows}
-use Rattle.receiver.specs.Chars.{scalars_take}
+use Rattle.input.specs.Held.{held_characters, held_short, held_shows, scalars_take}
 use Rattle.receiver.specs.declared.stash.Stash.{Stash}
 use Rattle.receiver.specs.Hold.{held, shows, held_length}
-use Rattle.receiver.specs.Drawn.{coming, coming_met, all_of, finish}
+use Rattle.source.specs.Met.{coming}
+use Rattle.receiver.specs.Drawn.{coming_met, all_of, finish}
 
 -- what is held and what is still to come, behind a window of sixteen
 abbrev pub seen : {S : Type 0} → (S → List ℕ) → (S → Ending) → Stash S → View

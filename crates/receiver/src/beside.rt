@@ -10,9 +10,10 @@ use crate::stash::Stash;
 use input::Input;
 use input::ticket::Reading;
 use reading::call::Step;
-use reading::list::side_by_side;
+use reading::list::side_by_side_with;
+use reading::scanner::{ByCharacter, Own};
 
-/// Takes a receiver and another input through a list each.
+/// Takes a receiver and another input, which need not scan, through a list each.
 ///
 /// Lists that differ in added lookaheads alone get the same answers of inputs that have the same ahead; for each of the two,
 /// nothing is lost or doubled, and the ending is told.
@@ -30,5 +31,7 @@ pub fn receive_beside<I: Input>(
     ensures receiver { Account false 16 (log_of one.old one.new) (seen packets_ahead packets_ending receiver.old) (seen packets_ahead packets_ending receiver.new) }
     ensures other { Account I.Input.prompt I.Input.most (log_of two.old two.new) (I.Input.view other.old) (I.Input.view other.new) }
 {
-    side_by_side(receiver, other, one, two, held, beside)
+    side_by_side_with::<Stash<Packets<'_>>, I, Own, ByCharacter>(
+        receiver, other, one, two, held, beside,
+    )
 }

@@ -3,7 +3,7 @@
 ghost use Rattle.receiver.specs.Drawn.{Draws};
 
 use crate::drawn::Drawn;
-use source::{FallibleSource, Step};
+use source::FallibleSource;
 
 impl<S: FallibleSource> Drawn<S> {
     /// Draws until sixteen are held or the ending is met.
@@ -12,8 +12,9 @@ impl<S: FallibleSource> Drawn<S> {
     {
         while self.met.is_none() && self.hold.len < 16 {
             match self.source.step() {
-                Step::Char(c) => self.hold.push(c),
-                Step::End(ending) => self.met = Some(ending),
+                Ok(Some(c)) => self.hold.push(c),
+                Ok(None) => self.met = Some(Ok(())),
+                Err(fault) => self.met = Some(Err(fault)),
             }
         }
     }

@@ -1,33 +1,19 @@
-//! Packets as they were received: a place in their slots, and how the link ended.
+//! Packets as they were received: the slots that are still to come, and how the link ends.
 
-ghost use Rattle.std.specs.Prelude.{◌≤◌, length};
+ghost use Rattle.std.specs.Prelude.{◌+◌, ◌≤◌, length};
 ghost use Rattle.receiver.specs.SlotLimit.{slot_limit};
 
 use error::Place;
+use source::codes::CodesEnding;
 
-/// A slot of a packet.
-#[derive(Clone, Copy)]
-pub enum Slot {
-    Char(char),
-    /// Nothing was received.
-    Gap,
-}
-
-/// How the link ended.
-#[derive(Clone, Copy)]
-pub enum Link {
-    Clean,
-    Lost,
-}
+/// A slot of a packet: a character, or none where nothing was received.
+pub type Slot = Option<char>;
 
 /// The characters of packets, without their gaps.
 #[derive(Drop)]
 pub struct Packets<'a> {
     pub(crate) slots: &'a [Slot],
-    pub(crate) place: usize,
     pub(crate) given: Place,
-    pub(crate) link: Link,
-    ghost short: { length slots.now ≤ slot_limit },
-    ghost inside: { place ≤ length slots.now },
-    ghost fewer: { given ≤ place },
+    pub(crate) ending: CodesEnding,
+    ghost short: { given + length slots.now ≤ slot_limit },
 }

@@ -1,14 +1,12 @@
 //! What is held, shifted down when the first is taken.
 
-ghost use Rattle.std.specs.Prelude.{◌≡◌, ◌+◌, ◌<◌, true, [], ◌∷◌, ◌++◌};
+ghost use Rattle.std.specs.Prelude.{◌≡◌, ◌+◌, ◌<◌, [], ◌∷◌, ◌++◌};
 ghost use Rattle.source.specs.Steps.{Gives};
 ghost use Rattle.input.specs.Calls.{first_of};
-ghost use Rattle.input.specs.Tests.{without_nul, found, thrice, marker_in};
 ghost use Rattle.receiver.specs.Hold.{held, shows};
 
 use crate::hold::Hold;
-use char_traits::is_blank_or_breakz;
-use input::Marker;
+use input::shows::Shows;
 
 impl Hold {
     pub(crate) fn new() -> Hold
@@ -18,13 +16,6 @@ impl Hold {
             places: ['\0'; 16],
             len: 0,
         }
-    }
-
-    /// The character at a place, or NUL past the last.
-    pub(crate) fn at(&self, n: usize) -> char
-        ensures { result ≡ shows (held self.now) n }
-    {
-        if n < self.len { self.places[n] } else { '\0' }
     }
 
     /// The first character, if one is held.
@@ -55,38 +46,20 @@ impl Hold {
             return None;
         }
         let c = self.places[0];
+        // the borrow checker does not lend a field of a type with ghost fields in place
         let mut places = self.places;
         places.rotate_left(1);
         self.places = places;
         self.len -= 1;
         Some(c)
     }
+}
 
-    /// Whether what is held begins with the characters wanted.
-    pub(crate) fn begins_with(&self, wanted: &[char]) -> bool
-        ensures { without_nul wanted.now ≡ true → result ≡ found (shows (held self.now)) wanted.now }
-    {
-        self.places[..self.len].starts_with(wanted)
-    }
+impl Shows for Hold {
+    ghost shown = { λ h. shows (held h) };
 
-    fn is_thrice(&self, c: char) -> bool
-        ensures { result ≡ thrice c (shows (held self.now)) }
-    {
-        self.at(0) == c && self.at(1) == c && self.at(2) == c
-    }
-
-    /// The document marker at the front, if one is there.
-    pub(crate) fn marker(&self) -> Option<Marker>
-        ensures { result ≡ marker_in (shows (held self.now)) }
-    {
-        if !is_blank_or_breakz(self.at(3)) {
-            None
-        } else if self.is_thrice('-') {
-            Some(Marker::Start)
-        } else if self.is_thrice('.') {
-            Some(Marker::End)
-        } else {
-            None
-        }
+    /// The character at a place, or NUL past the last.
+    fn at(&self, n: usize) -> char {
+        if n < self.len { self.places[n] } else { '\0' }
     }
 }

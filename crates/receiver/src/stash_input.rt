@@ -10,6 +10,7 @@ use crate::hold::Hold;
 use crate::stash::Stash;
 use char_traits::is_breakz;
 use error::{Fault, Refusal};
+use input::shows::Shows;
 use input::{Input, Marker};
 use source::FallibleSource;
 
@@ -82,12 +83,10 @@ impl<S: FallibleSource> Input for Stash<S> {
     }
 
     fn skip_n(&mut self, count: usize) {
-        let mut left = count;
-        while left > 0 {
+        for _ in 0..count {
             if self.take().is_none() {
                 return;
             }
-            left -= 1;
         }
     }
 
@@ -121,9 +120,6 @@ impl<S: FallibleSource> Input for Stash<S> {
     }
 
     fn met_fault(&self) -> Option<Fault> {
-        match self.drawn.met {
-            Some(ending) => ending.fault(),
-            None => None,
-        }
+        self.drawn.met?.err()
     }
 }

@@ -1,112 +1,70 @@
 //! The kinds of input that a line can ask for.
 
-ghost use Rattle.std.specs.Prelude.{◌≤◌, IfOk};
+ghost use Rattle.player.specs.Lines.{Leaves};
+ghost use Rattle.std.specs.Prelude.{IfOk};
 
 use buffered::buffered::BufferedInput;
 use buffered::fallible::FallibleBufferedInput;
 use error::Refusal;
+use input::borrowed::BorrowedInput;
 use player::desk::Desk;
-use player::list::{idle, serve};
+use player::list::{Lines, idle, serve};
 use protocol::answer::Answer;
+use scan::Scan;
 use source::bytes::ByteChars;
 use source::codes::{Codes, CodesEnding};
 use source::text::TextChars;
 use std::io;
 use str_input::text::StrInput;
 
-fn refused(
-    rt: &HostRuntime,
-    refusal: Refusal,
-    text: &[u8],
-    from: usize,
-    desk: &mut Desk,
-) -> io::Result<usize>
-    ensures { IfOk result (λ at. from ≤ at) }
-{
-    desk.begin(Answer::Refused(refusal))?;
-    idle(rt, text, from, desk)
-}
-
-/// A list on a slice.
-pub fn on_slice(
-    rt: &HostRuntime,
-    bytes: &[u8],
-    text: &[u8],
-    from: usize,
-    desk: &mut Desk,
-) -> io::Result<usize>
-    ensures { IfOk result (λ at. from ≤ at) }
-{
+/// A slice.
+pub(crate) fn slice(bytes: &[u8]) -> Result<StrInput<'_>, Refusal> {
     let mut input = StrInput::new();
-    if let Err(refusal) = input.load(bytes) {
-        return refused(rt, refusal, text, from, desk);
-    }
-    desk.begin(Answer::Done)?;
-    serve(rt, &mut input, text, from, desk)
+    input.load(bytes)?;
+    Ok(input)
 }
 
-/// A list on a ring over the characters of a text.
-pub fn on_text(
-    rt: &HostRuntime,
-    bytes: &[u8],
-    text: &[u8],
-    from: usize,
-    desk: &mut Desk,
-) -> io::Result<usize>
-    ensures { IfOk result (λ at. from ≤ at) }
-{
+/// A ring over the characters of a text.
+pub(crate) fn ring_of_text(bytes: &[u8]) -> Result<BufferedInput<TextChars<'_>>, Refusal> {
     let mut source = TextChars::new();
-    if let Err(refusal) = source.load(bytes) {
-        return refused(rt, refusal, text, from, desk);
-    }
-    desk.begin(Answer::Done)?;
-    let mut input = BufferedInput::new(source);
-    serve(rt, &mut input, text, from, desk)
+    source.load(bytes)?;
+    Ok(BufferedInput::new(source))
 }
 
-/// A list on a ring over any bytes.
-pub fn on_bytes(
-    rt: &HostRuntime,
-    bytes: &[u8],
-    text: &[u8],
-    from: usize,
-    desk: &mut Desk,
-) -> io::Result<usize>
-    ensures { IfOk result (λ at. from ≤ at) }
-{
+/// A ring over any bytes.
+pub(crate) fn ring_of_bytes(bytes: &[u8]) -> Result<FallibleBufferedInput<ByteChars<'_>>, Refusal> {
     let mut source = ByteChars::new();
-    if let Err(refusal) = source.load(bytes) {
-        return refused(rt, refusal, text, from, desk);
-    }
-    desk.begin(Answer::Done)?;
-    let mut input = FallibleBufferedInput::new(source);
-    serve(rt, &mut input, text, from, desk)
+    source.load(bytes)?;
+    Ok(FallibleBufferedInput::new(source))
 }
 
-fn ending(fails: bool) -> CodesEnding {
-    if fails {
-        CodesEnding::InputIo
-    } else {
-        CodesEnding::Clean
-    }
-}
-
-/// A list on a ring over codes, after which the line may fail.
-pub fn on_codes(
-    rt: &HostRuntime,
+/// A ring over codes, after which the line may fail.
+pub(crate) fn ring_of_codes(
     codes: &[u32],
-    fails: bool,
-    text: &[u8],
-    from: usize,
-    desk: &mut Desk,
-) -> io::Result<usize>
-    ensures { IfOk result (λ at. from ≤ at) }
-{
+    ending: CodesEnding,
+) -> Result<FallibleBufferedInput<Codes<'_>>, Refusal> {
     let mut source = Codes::new();
-    if let Err(refusal) = source.load(codes, ending(fails)) {
-        return refused(rt, refusal, text, from, desk);
+    source.load(codes, ending)?;
+    Ok(FallibleBufferedInput::new(source))
+}
+
+/// A list on an input, or on none if it is refused. Tells the line that asks for the next, or that there is none.
+pub(crate) fn on<'a, 'b, I: Scan + BorrowedInput<'a> + Drop>(
+    rt: &HostRuntime,
+    made: Result<I, Refusal>,
+    lines: &mut Lines<'b>,
+    desk: &mut Desk,
+) -> io::Result<Option<&'b [u8]>>
+    ensures { IfOk result (λ asked. Leaves lines.old.rest.now asked lines.new.rest.now) }
+{
+    match made {
+        Ok(mut input) => {
+            desk.begin(Answer::Done)?;
+            serve(rt, &mut input, lines, desk)
+        }
+        Err(refusal) => {
+            desk.begin(Answer::Refused(refusal))?;
+            idle(rt, lines, desk)
+        }
     }
-    desk.begin(Answer::Done)?;
-    let mut input = FallibleBufferedInput::new(source);
-    serve(rt, &mut input, text, from, desk)
 }

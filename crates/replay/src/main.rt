@@ -1,44 +1,49 @@
 //! Reads commands from its standard input, one a line, performs them on inputs, and answers each in a line.
 #![tactic(auto)]
 
-ghost use Rattle.std.specs.Prelude.{◌<◌, ◌≤◌, length, IfOk};
+ghost use Rattle.std.specs.Prelude.{IfOk};
+ghost use Rattle.player.specs.Lines.{Leaves};
 
 mod kinds;
 
-use kinds::{on_bytes, on_codes, on_slice, on_text};
+use kinds::{on, ring_of_bytes, ring_of_codes, ring_of_text, slice};
 use player::desk::Desk;
-use player::list::{idle, line_from};
+use player::list::{Lines, idle};
 use protocol::answer::Answer;
 use protocol::make::{Make, parse_new};
 use std::io;
 use std::io::Read;
 use std::process::ExitCode;
 
-/// The list that begins with a line for a new input. Tells where the next such line is, or the end.
-fn list(rt: &HostRuntime, text: &[u8], at: usize, desk: &mut Desk) -> io::Result<usize>
-    requires { at < length text.now }
-    ensures { IfOk result (λ next. at < next) }
+/// The list that begins with a line for a new input. Tells the line that asks for the next, or that there is none.
+fn list<'b>(
+    rt: &HostRuntime,
+    line: &[u8],
+    lines: &mut Lines<'b>,
+    desk: &mut Desk,
+) -> io::Result<Option<&'b [u8]>>
+    ensures { IfOk result (λ asked. Leaves lines.old.rest.now asked lines.new.rest.now) }
 {
-    let line = line_from(text, at);
-    let end = line.end;
-    let from = line.next;
-    match parse_new(rt.alloc(), &text[at..end])? {
-        Make::Bad => {
+    match parse_new(rt.alloc(), line)? {
+        None => {
             desk.begin(Answer::Bad)?;
-            idle(rt, text, from, desk)
+            idle(rt, lines, desk)
         }
-        Make::Slice(bytes) => on_slice(rt, bytes.as_slice(), text, from, desk),
-        Make::Text(bytes) => on_text(rt, bytes.as_slice(), text, from, desk),
-        Make::Bytes(bytes) => on_bytes(rt, bytes.as_slice(), text, from, desk),
-        Make::Codes(codes, fails) => on_codes(rt, codes.as_slice(), fails, text, from, desk),
+        Some(Make::Slice(bytes)) => on(rt, slice(bytes.as_slice()), lines, desk),
+        Some(Make::Text(bytes)) => on(rt, ring_of_text(bytes.as_slice()), lines, desk),
+        Some(Make::Bytes(bytes)) => on(rt, ring_of_bytes(bytes.as_slice()), lines, desk),
+        Some(Make::Codes(codes, ending)) => {
+            on(rt, ring_of_codes(codes.as_slice(), ending), lines, desk)
+        }
     }
 }
 
 fn run(rt: &HostRuntime, text: &[u8]) -> io::Result<()> {
     let mut desk = Desk::new(rt.alloc())?;
-    let mut at = idle(rt, text, 0, &mut desk)?;
-    while at < text.len() {
-        at = list(rt, text, at, &mut desk)?;
+    let mut lines = Lines::new(text);
+    let mut asked = idle(rt, &mut lines, &mut desk)?;
+    while let Some(line) = asked {
+        asked = list(rt, line, &mut lines, &mut desk)?;
     }
     desk.flush(rt)
 }

@@ -1,5 +1,5 @@
 -- A scan after its lookahead. Assumes nothing.
-use Rattle.std.proofs.Common.{◌≡◌, ℕ, ◌-◌, ◌<◌, ◌≤◌, min, Bool, true, false, cond, not, ◌&&◌, ◌||◌, ltb, leb, List, [], ◌∷◌, length, get_or, take, drop, Some, sym, refl, ap, ◌∙◌, subst, arith, length-drop}
+use Rattle.std.proofs.Common.{◌≡◌, ℕ, ◌-◌, ◌<◌, ◌≤◌, min, Bool, true, false, cond, not, ◌&&◌, ◌||◌, ltb, leb, List, [], ◌∷◌, length, get_or, take, drop, Some, sym, refl, ap, ◌∙◌, subst, arith, length-drop, lt-ltb, le-ltb}
 use lib.Utf8.{encode, encodes}
 use Rattle.std.proofs.lemmas.List.{take_all}
 use Rattle.std.proofs.lemmas.Str.{length-le-encodes}
@@ -8,7 +8,7 @@ use Rattle.error.specs.declared.Refusal.TheVariants.{BeyondRoom}
 use Rattle.utf8.specs.Room.{laid}
 use Rattle.input.specs.View.{View, Sound, Keeps}
 use Rattle.input.specs.Calls.{none_left, Looks}
-use Rattle.input.proofs.Keeping.{never, still, both, is_below, not_below, none_is}
+use Rattle.input.proofs.Keeping.{never, still, both, none_is}
 use Rattle.runs.specs.declared.Fetched.{Fetched}
 use Rattle.runs.specs.Runs.{run_by}
 use Rattle.runs.specs.Rooms.{fitting, beyond, part}
@@ -49,14 +49,14 @@ module _ (prompt : Bool) (go : ℕ → ℕ → Bool) (v w : View) (s : Sound v) 
   pub skims_whole : (n : ℕ) → Skims prompt (ltb n whole) 0 (take whole (run_by go v.ahead)) n v w → Skims prompt true 0 (run_by go v.ahead) n v w
   skims_whole n k =
       let number = k.number ∙ ap length all in
-      let looks : ltb n whole ≡ true = is_below n whole (omega (arith, fewer)) in
+      let looks : ltb n whole ≡ true = lt-ltb n whole (omega (arith, fewer)) in
       record { keeps = subst (λ (b : Bool). Keeps prompt (b && none_left w.ahead) 0 v w) looks k.keeps; told = k.told; wide = k.wide; number = number; ahead = k.ahead }
 
   pub fetches_whole : (room : List ℕ) (filled : ℕ) (r : Fetched) (left : List ℕ)
       → Fetches prompt (ltb r.count whole) 0 (take whole (run_by go v.ahead)) room filled r left v w → Fetches prompt true 0 (run_by go v.ahead) room filled r left v w
   fetches_whole room filled r left f =
       let short = part_short room filled (take whole (run_by go v.ahead)) in
-      let looks : ltb r.count whole ≡ true = is_below r.count whole (omega (arith, f.number, fewer, ap length all)) in
+      let looks : ltb r.count whole ≡ true = lt-ltb r.count whole (omega (arith, f.number, fewer, ap length all)) in
       subst (λ (run : List ℕ). Fetches prompt true 0 run room filled r left v w) all
       (subst (λ (b : Bool). Fetches prompt b 0 (take whole (run_by go v.ahead)) room filled r left v w) looks f)
 
@@ -88,7 +88,7 @@ module _ (prompt : Bool) (most count : ℕ) (v e w : View) (big : 16 ≤ most) (
   fetches_same : (looks : Bool) (run room : List ℕ) (filled : ℕ) (r : Fetched) (left : List ℕ) → filled ≤ length room → Fetches prompt looks 0 run room filled r left e w
       → Fetches prompt looks count run room filled r left v w
   fetches_same looks run room filled r left h f =
-      let inside : beyond room filled ≡ false = not_below (length room) filled h in
+      let inside : beyond room filled ≡ false = le-ltb (length room) filled h in
       let len : length w.ahead ≤ length e.ahead = omega (arith, ap length f.ahead ∙ length-drop (length (part room filled run)) e.ahead) in
       let keeps : Keeps prompt (looks && none_left w.ahead) 0 e w = subst (λ (b : Bool). Keeps prompt (looks && (not b && none_left w.ahead)) (cond b 0 0) e w) inside f.keeps in
       record {
@@ -144,7 +144,7 @@ fetches_scan prompt looks run room filled r left v w f =
 pub fetch_beyond : (prompt looks : Bool) (asks : ℕ) (run room : List ℕ) (filled : ℕ) (r : Fetched) (v : View) → Sound v → length room < filled
     → r ≡ record { count = 0; filled = filled; refusal = Some BeyondRoom } → Fetches prompt looks asks run room filled r room v v
 fetch_beyond prompt looks asks run room filled r v s h e =
-    let out : beyond room filled ≡ true = is_below (length room) filled h in
+    let out : beyond room filled ≡ true = lt-ltb (length room) filled h in
     let none : part room filled run ≡ [] = ap (λ (b : Bool). cond b [] (fitting (length room - filled) run)) out in
     subst (λ (x : Fetched). Fetches prompt looks asks run room filled x room v v) (sym e)
     (record {
@@ -172,7 +172,7 @@ unfound prompt b asks v w o k =
       stays = k.stays;
       meets = λ h. absurd (never h);
       narrow = k.narrow;
-      late = λ p. k.late p ∙ same v.met (b && none_left w.ahead) (ltb (length w.ahead) w.window) (λ h. is_below _ _ (omega (arith, ap length (none_is w.ahead (second b h)))));
+      late = λ p. k.late p ∙ same v.met (b && none_left w.ahead) (ltb (length w.ahead) w.window) (λ h. lt-ltb _ _ (omega (arith, ap length (none_is w.ahead (second b h)))));
     }
   where
     second : (b : Bool) {c : Bool} → b && c ≡ true → c ≡ true

@@ -1,5 +1,5 @@
 -- Fronts of plain runs. Assumes nothing.
-use Rattle.std.proofs.Common.{◌≡◌, ℕ, suc, ◌-◌, ◌<◌, ◌≤◌, min, max, Bool, true, false, cond, not, ◌&&◌, ◌||◌, eqb, ltb, List, [], ◌∷◌, length, get_or, take, drop, Some, None, sym, refl, ap, ◌∙◌, subst, inl, inr, arith, length-take}
+use Rattle.std.proofs.Common.{◌≡◌, ℕ, suc, ◌-◌, ◌<◌, ◌≤◌, min, max, Bool, true, false, cond, not, ◌&&◌, ◌||◌, eqb, ltb, List, [], ◌∷◌, length, get_or, take, drop, Some, None, sym, refl, ap, ◌∙◌, subst, inl, inr, arith, length-take, lt-ltb, le-ltb}
 use lib.Utf8.{encodes}
 use Rattle.error.specs.declared.Refusal.TheVariants.{BeyondRoom}
 use Rattle.utf8.specs.Room.{laid}
@@ -8,13 +8,13 @@ use Rattle.std.proofs.lemmas.Bool.{cases_lt}
 use Rattle.char_traits.specs.Chars.{plain_safe}
 use Rattle.input.specs.View.{View, Sound, Keeps}
 use Rattle.input.specs.Calls.{none_left, Looks}
-use Rattle.input.proofs.Keeping.{is_below, not_below, still}
+use Rattle.input.proofs.Keeping.{still}
 use Rattle.runs.specs.declared.Fetched.{Fetched}
 use Rattle.runs.specs.declared.Colon.{Colon}
 use Rattle.runs.specs.declared.Colon.TheVariants.{Stops, Leads}
 use Rattle.runs.specs.Runs.{goes, run_by, plain_run, chunk_run, colon_at}
 use Rattle.runs.specs.Rooms.{fitting, beyond, part}
-use Rattle.runs.specs.Scans.{Sees, scan_asks, chunk_asks, Skims, Fetches, SkipsChunk, FetchesChunk, StepsChunk, StepsFetch}
+use Rattle.runs.specs.Scans.{scan_asks, chunk_asks, Skims, Fetches, SkipsChunk, FetchesChunk, StepsChunk, StepsFetch}
 use Rattle.runs.proofs.Asking.{skims_after, skims_scan, fetches_after, fetches_scan, opened, unfound, fetch_beyond}
 use Rattle.runs.proofs.Laying.{laid_none}
 
@@ -34,13 +34,6 @@ chunk_front window in_flow a =
     elim (ltb window 2) as (λ b. (k : ℕ) × (chunk_run (cond b Stops Leads) in_flow a ≡ take k (plain_run in_flow a)))
     [ true ↦ stopped_front (plain_safe in_flow) a | false ↦ (length (plain_run in_flow a), sym (take_all (length (plain_run in_flow a)) (plain_run in_flow a) (omega arith))) ]
 
-pub sees : (window : ℕ) → Sees (colon_at window) window
-sees window =
-    elim (cases_lt window 2) [
-      | inl h ↦ subst (λ (b : Bool). Sees (cond b Stops Leads) window) (sym (is_below window 2 h)) tt
-      | inr h ↦ subst (λ (b : Bool). Sees (cond b Stops Leads) window) (sym (not_below window 2 h)) h
-    ]
-
 -- so many of a front
 pub front_of_front : (count k : ℕ) (run : List ℕ) → take count (take k run) ≡ take (min count k) run
 front_of_front count k run =
@@ -53,8 +46,8 @@ front_of_front count k run =
 same_sight : (window : ℕ) → colon_at (max window 1) ≡ colon_at window
 same_sight window =
     elim (cases_lt window 2) [
-      | inl h ↦ ap (λ (b : Bool). cond b Stops Leads) (is_below (max window 1) 2 (omega arith) ∙ sym (is_below window 2 h))
-      | inr h ↦ ap (λ (b : Bool). cond b Stops Leads) (not_below (max window 1) 2 (omega arith) ∙ sym (not_below window 2 h))
+      | inl h ↦ ap (λ (b : Bool). cond b Stops Leads) (lt-ltb (max window 1) 2 (omega arith) ∙ sym (lt-ltb window 2 h))
+      | inr h ↦ ap (λ (b : Bool). cond b Stops Leads) (le-ltb (max window 1) 2 (omega arith) ∙ sym (le-ltb window 2 h))
     ]
 
 -- the colon that was found is the one of the window
@@ -111,7 +104,7 @@ module _ (prompt in_flow : Bool) (most count : ℕ) (v e w : View) (big : 16 ≤
   module _ (room : List ℕ) (filled : ℕ) (r : Fetched) (left : List ℕ) (h : filled ≤ length room)
       (f : Fetches prompt (ltb r.count count) 0 (take count (chunk_run (colon_at e.window) in_flow e.ahead)) room filled r left e w) where
     inside : beyond room filled ≡ false
-    inside = not_below (length room) filled h
+    inside = le-ltb (length room) filled h
 
     quiet_fetch : Fetches prompt false 0 (take count (chunk_run (colon_at e.window) in_flow e.ahead)) room filled r left e w
     quiet_fetch =
@@ -166,7 +159,7 @@ module _ (prompt in_flow : Bool) (count : ℕ) (v : View) (s : Sound v) (none : 
   skims_none run e = record { keeps = rests; told = refl; wide = narrow; number = sym (ap length e); ahead = refl }
 
   stops : false ≡ ltb 0 count
-  stops = sym (not_below 0 count (omega arith))
+  stops = sym (le-ltb 0 count (omega arith))
 
   pub skips_none : SkipsChunk prompt in_flow count (false, 0) v v
   skips_none = record { wants = 0; skims = skims_none (take 0 (plain_run in_flow v.ahead)) refl }
@@ -177,7 +170,7 @@ module _ (prompt in_flow : Bool) (count : ℕ) (v : View) (s : Sound v) (none : 
 
   module _ (room : List ℕ) (filled : ℕ) (r : Fetched) (h : filled ≤ length room) (is : r ≡ record { count = 0; filled = filled; refusal = None }) where
     within : beyond room filled ≡ false
-    within = not_below (length room) filled h
+    within = le-ltb (length room) filled h
 
     nothing : (run : List ℕ) → run ≡ [] → part room filled run ≡ []
     nothing run e = ap (part room filled) e ∙ empty (beyond room filled)

@@ -1,17 +1,16 @@
 -- A fetch as far as it has come. Assumes nothing.
-use Rattle.std.proofs.Common.{◌≡◌, ℕ, ◌+◌, ◌-◌, ◌<◌, ◌≤◌, min, Bool, true, false, cond, not, ◌&&◌, ltb, List, [], ◌∷◌, length, take, drop, Some, None, Option, sym, refl, ap, ◌∙◌, subst, arith, length-append}
+use Rattle.std.proofs.Common.{◌≡◌, ℕ, ◌+◌, ◌-◌, ◌<◌, ◌≤◌, min, Bool, true, false, cond, not, ◌&&◌, ltb, List, [], ◌∷◌, length, drop, Some, None, Option, sym, refl, ap, ◌∙◌, subst, arith, length-append, lt-ltb, le-ltb}
 use lib.Utf8.{encode, encodes}
 use Rattle.error.specs.declared.Refusal.{Refusal}
 use Rattle.utf8.specs.Room.{laid}
-use Rattle.input.specs.View.{View, Sound, Keeps}
+use Rattle.input.specs.View.{View, Keeps}
 use Rattle.input.specs.Calls.{none_left, Skips}
-use Rattle.input.proofs.Keeping.{is_below, not_below, never}
+use Rattle.input.proofs.Keeping.{never}
 use Rattle.runs.specs.declared.Fetched.{Fetched}
-use Rattle.runs.specs.Runs.{run_by}
 use Rattle.runs.specs.Rooms.{fitting, beyond, part, refused}
 use Rattle.runs.specs.Scans.{Offers, Fetches}
 use Rattle.runs.proofs.Laying.{laid_none, laid_length, laid_both, fit_one, fit_none, Appended, Full}
-use Rattle.runs.proofs.Running.{first_some, Running, all_of, rest_of, run_none, run_more, rest_is, gone, ended, offered, take_over, counted}
+use Rattle.runs.proofs.Running.{first_some, Running, all_of, rest_of, run_more, rest_is, gone, ended, offered}
 
 -- n characters of a run were taken, from v to w, and their bytes lie in the room from `filled` to `end`
 pub record Fetching (prompt : Bool) (go : ℕ → ℕ → Bool) (most : ℕ) (start room : List ℕ) (filled end n : ℕ) (v w : View) : Type 0 where
@@ -21,20 +20,6 @@ pub record Fetching (prompt : Bool) (go : ℕ → ℕ → Bool) (most : ℕ) (st
   pub number : length (fitting (length start - filled) (all_of go most v)) ≡ n + length (fitting (length room - end) (rest_of go most n w))
   pub bytes : filled + length (encodes (fitting (length start - filled) (all_of go most v))) ≡ end + length (encodes (fitting (length room - end) (rest_of go most n w)))
   pub lies : laid start filled (encodes (fitting (length start - filled) (all_of go most v))) ≡ laid room end (encodes (fitting (length room - end) (rest_of go most n w)))
-
-pub fetch_none : (prompt : Bool) (go : ℕ → ℕ → Bool) (most : ℕ) (room : List ℕ) (filled : ℕ) (v : View) → Sound v → filled ≤ length room → Fetching prompt go most room room filled filled 0 v v
-fetch_none prompt go most room filled v s h =
-    let e : most - 0 ≡ most = omega arith in
-    let same : all_of go most v ≡ rest_of go most 0 v = ap (λ k. take k (run_by go v.ahead)) (sym e) in
-    let fit : fitting (length room - filled) (all_of go most v) ≡ fitting (length room - filled) (rest_of go most 0 v) = ap (fitting (length room - filled)) same in
-    record {
-      run = run_none prompt go most v s;
-      long = refl;
-      inside = h;
-      number = ap length fit ∙ omega arith;
-      bytes = ap (λ xs. filled + length (encodes xs)) fit;
-      lies = ap (λ xs. laid room filled (encodes xs)) fit;
-    }
 
 module _ (prompt : Bool) (go : ℕ → ℕ → Bool) (most : ℕ) (start room : List ℕ) (filled end n : ℕ) (v u o : View) (r : Option ℕ) (f : Fetching prompt go most start room filled end n v u) (offers : Offers prompt go r u o) where
   pub fetch_more : (c : ℕ) → Some c ≡ r → n < most → (next : ℕ) (new : List ℕ) → Appended (encode c) room end next new → (w : View) → Skips prompt 1 o w
@@ -63,7 +48,7 @@ module _ (prompt : Bool) (go : ℕ → ℕ → Bool) (most : ℕ) (start room : 
 -- nothing more of the run fits, or nothing is left of it
 module _ (prompt : Bool) (go : ℕ → ℕ → Bool) (most : ℕ) (start room : List ℕ) (filled end n : ℕ) (v u : View) (f : Fetching prompt go most start room filled end n v u) (h : filled ≤ length start) (none : fitting (length room - end) (rest_of go most n u) ≡ []) where
   within : beyond start filled ≡ false
-  within = not_below (length start) filled h
+  within = le-ltb (length start) filled h
 
   part_is : part start filled (all_of go most v) ≡ fitting (length start - filled) (all_of go most v)
   part_is = ap (λ (b : Bool). cond b [] (fitting (length start - filled) (all_of go most v))) within
@@ -89,7 +74,7 @@ module _ (prompt : Bool) (go : ℕ → ℕ → Bool) (most : ℕ) (start room : 
 
 -- all of the run was taken
 all_taken : (n : ℕ) (all : List ℕ) → length all ≡ n → ◌≡◌ {A = ℕ × List ℕ} (0, []) (cond (ltb n (length all)) (7, []) (0, []))
-all_taken n all e = sym (ap (λ (b : Bool). cond b (7, []) (0, [])) (not_below n (length all) (omega arith)))
+all_taken n all e = sym (ap (λ (b : Bool). cond b (7, []) (0, [])) (le-ltb n (length all) (omega arith)))
 
 module _ (prompt : Bool) (go : ℕ → ℕ → Bool) (most : ℕ) (start room : List ℕ) (filled end n : ℕ) (v u o : View) (r : Option ℕ) (f : Fetching prompt go most start room filled end n v u) (offers : Offers prompt go r u o) (h : filled ≤ length start) where
   pub fetch_ended : None ≡ r → n < most
@@ -106,10 +91,10 @@ module _ (prompt : Bool) (go : ℕ → ℕ → Bool) (most : ℕ) (start room : 
       let w : View = record { ahead = drop 1 o.ahead; window = 0; ending = o.ending; met = true; told = true } in
       let rest = rest_is prompt go most n v u o r f.run offers c is more w refl in
       let none = ap (fitting (length room - end)) rest ∙ fit_none (length room - end) c (rest_of go most (n + 1) w) (omega (arith, full.wide, f.inside)) in
-      let fewer : ltb n (length (all_of go most v)) ≡ true = is_below n _ (omega (arith, f.run.so_far, ap length rest)) in
+      let fewer : ltb n (length (all_of go most v)) ≡ true = lt-ltb n _ (omega (arith, f.run.so_far, ap length rest)) in
       let some : none_left o.ahead ≡ false = left o.ahead c (offers.ahead ∙ ahead_is) in
       let keeps : Keeps prompt (ltb n most && none_left o.ahead) 0 v o =
-      subst (λ (b : Bool). Keeps prompt (b && none_left o.ahead) 0 v o) (sym (is_below n most more))
+      subst (λ (b : Bool). Keeps prompt (b && none_left o.ahead) 0 v o) (sym (lt-ltb n most more))
       (subst (λ (b : Bool). Keeps prompt b 0 v o) (sym some) (offered prompt go most n v u o r f.run offers c is more)) in
       subst (λ (bytes : List ℕ). Fetches prompt (ltb n most) 0 (all_of go most v) start filled (record { count = n; filled = end; refusal = Some refusal }) bytes v o) (sym full.same)
       (fetched prompt go most start room filled end n v u f h none (ltb n most) (Some refusal) o
@@ -121,14 +106,6 @@ module _ (prompt : Bool) (go : ℕ → ℕ → Bool) (most : ℕ) (start room : 
       left : (a : List ℕ) (c : ℕ) {b : List ℕ} → a ≡ c ∷ b → none_left a ≡ false
       left [] c e = absurd (let z : ◌≡◌ {A = ℕ} 0 1 = cc in omega arith)
       left (d ∷ a) c e = refl
-
-pub fetch_counted : (prompt : Bool) (go : ℕ → ℕ → Bool) (most : ℕ) (start room : List ℕ) (filled end n : ℕ) (v w : View) → Fetching prompt go most start room filled end n v w → filled ≤ length start
-    → most ≤ n → Fetches prompt (ltb n most) 0 (all_of go most v) start filled (record { count = n; filled = end; refusal = None }) room v w
-fetch_counted prompt go most start room filled end n v w f h all =
-    let none = take_over most n (run_by go w.ahead) all in
-    fetched prompt go most start room filled end n v w f h (ap (fitting (length room - end)) none) (ltb n most) None w
-    (all_taken n (all_of go most v) (f.run.so_far ∙ ap (λ xs. n + length xs) none ∙ omega arith))
-    (counted prompt go most n v w f.run all) f.run.told f.run.ahead
 
 -- the same of the answer that was made of it
 pub answered : (prompt : Bool) (most : ℕ) (run start : List ℕ) (filled n end : ℕ) (refusal : Option Refusal) (left : List ℕ) (v w : View) (r : Fetched)

@@ -1,6 +1,5 @@
 -- A run is a front of what is ahead. Assumes nothing.
-use Rattle.std.proofs.Common.{◌≡◌, ℕ, ◌+◌, Bool, true, false, cond, List, [], ◌∷◌, ◌++◌, length, get_or, take, drop, sym, refl, ap, ◌∙◌, append_assoc, arith, length-append, drop-drop}
-use lib.Seq.{take-append_seam}
+use Rattle.std.proofs.Common.{◌≡◌, ℕ, ◌+◌, Bool, true, false, cond, List, [], ◌∷◌, ◌++◌, length, get_or, drop, sym, refl, ap, ◌∙◌, append_assoc, arith, length-append, drop-drop}
 use Rattle.char_traits.specs.Chars.{not_breakz}
 use Rattle.input.specs.Calls.{none_left}
 use Rattle.runs.specs.declared.SkipTabs.{SkipTabs}
@@ -14,9 +13,6 @@ pub run_front : (go : ℕ → ℕ → Bool) (a : List ℕ) → Front (run_by go 
 run_front go [] = refl
 run_front go (c ∷ a) =
     elim (go c (get_or a 0 0)) as (λ b. Front (cond b (c ∷ run_by go a) []) (c ∷ a)) [ true ↦ ap (λ r. c ∷ r) (run_front go a) | false ↦ refl ]
-
-pub front_take : (run ahead : List ℕ) → Front run ahead → take (length run) ahead ≡ run
-front_take run ahead e = ap (take (length run)) e ∙ take-append_seam run (drop (length run) ahead)
 
 comment_front : (a : List ℕ) → Front (comment_of a) a
 comment_front a = elim (at_hash a) as (λ b. Front (cond b (run_of not_breakz a) []) a) [ true ↦ run_front (goes not_breakz Free) a | false ↦ refl ]

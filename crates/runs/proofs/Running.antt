@@ -1,17 +1,10 @@
 -- A run as far as it was taken. Assumes nothing.
-use Rattle.std.proofs.Common.{◌≡◌, ℕ, zero, suc, ◌+◌, ◌-◌, ◌<◌, ◌≤◌, Bool, true, false, cond, ◌&&◌, ltb, List, [], ◌∷◌, length, get_or, take, drop, is_some, Some, None, Option, sym, refl, ap, ◌∙◌, subst, arith, length-drop, drop-drop}
-use Rattle.input.specs.View.{View, Sound, Keeps}
+use Rattle.std.proofs.Common.{◌≡◌, ℕ, zero, suc, ◌+◌, ◌-◌, ◌<◌, ◌≤◌, Bool, true, false, cond, ◌&&◌, ltb, List, [], ◌∷◌, length, get_or, take, drop, is_some, Some, None, Option, sym, refl, ap, ◌∙◌, subst, arith, length-drop, drop-drop, lt-ltb, le-ltb}
+use Rattle.input.specs.View.{View, Keeps}
 use Rattle.input.specs.Calls.{none_left, first_of, Skips}
-use Rattle.input.proofs.Keeping.{never, still, both, is_below, not_below}
-use Rattle.runs.specs.declared.Colon.{Colon}
-use Rattle.runs.specs.declared.Colon.TheVariants.{Free, Stops, Leads}
+use Rattle.input.proofs.Keeping.{never, both}
 use Rattle.runs.specs.Runs.{run_by}
-use Rattle.runs.specs.Scans.{Sees, Offers, Skims}
-
-pub sees_more : (colon : Colon) (a b : ℕ) → Sees colon a → a ≤ b → Sees colon b
-sees_more Free a b s h = tt
-sees_more Stops a b s h = tt
-sees_more Leads a b s h = omega arith
+use Rattle.runs.specs.Scans.{Offers, Skims}
 
 -- the first character of a run, and what the run is after it
 pub record First (go : ℕ → ℕ → Bool) (a : List ℕ) (c : ℕ) : Type 0 where
@@ -70,12 +63,6 @@ pub record Running (prompt : Bool) (go : ℕ → ℕ → Bool) (most n : ℕ) (v
   pub upto : n ≤ most
   pub so_far : length (all_of go most v) ≡ n + length (rest_of go most n w)
 
-pub run_none : (prompt : Bool) (go : ℕ → ℕ → Bool) (most : ℕ) (v : View) → Sound v → Running prompt go most 0 v v
-run_none prompt go most v s =
-    let e : most - 0 ≡ most = omega arith in
-    let f : length (all_of go most v) ≡ length (rest_of go most 0 v) = ap (λ k. length (take k (run_by go v.ahead))) (sym e) in
-    record { keeps = still prompt v s; told = refl; ahead = refl; upto = omega arith; so_far = omega arith }
-
 module _ (prompt : Bool) (go : ℕ → ℕ → Bool) (most n : ℕ) (v u o : View) (r : Option ℕ) (run : Running prompt go most n v u) (offers : Offers prompt go r u o) where
   shorter : length o.ahead ≤ length u.ahead
   shorter = omega (arith, ap length offers.ahead)
@@ -101,7 +88,7 @@ module _ (prompt : Bool) (go : ℕ → ℕ → Bool) (most n : ℕ) (v u o : Vie
     run_more w k =
         let some = (some_left u.ahead c first.ahead).1 in
         let len : length w.ahead ≤ length o.ahead = omega (arith, ap length k.ahead ∙ length-drop 1 o.ahead) in
-        let not_end : ltb (length o.ahead) 1 ≡ false = not_below _ _ (omega (arith, ap length offers.ahead)) in
+        let not_end : ltb (length o.ahead) 1 ≡ false = le-ltb _ _ (omega (arith, ap length offers.ahead)) in
         record {
           keeps = both prompt false 0 v o w len offered (subst (λ (b : Bool). Keeps prompt b 0 o w) not_end k.keeps);
           told = k.told ∙ offers.told ∙ run.told;
@@ -117,7 +104,7 @@ module _ (prompt : Bool) (go : ℕ → ℕ → Bool) (most n : ℕ) (v u o : Vie
 
     pub ended : Keeps prompt (ltb n most && none_left o.ahead) 0 v o
     ended =
-        let looks : ltb n most ≡ true = is_below n most more in
+        let looks : ltb n most ≡ true = lt-ltb n most more in
         let e : none_left u.ahead ≡ ltb n most && none_left o.ahead = ap none_left (sym offers.ahead) ∙ ap (λ b. b && none_left o.ahead) (sym looks) in
         subst (λ (b : Bool). Keeps prompt b 0 v o) e (both prompt (none_left u.ahead) 0 v u o shorter run.keeps offers.keeps)
 
@@ -135,7 +122,7 @@ module _ (prompt : Bool) (go : ℕ → ℕ → Bool) (most n : ℕ) (v u o : Vie
 module _ (prompt : Bool) (go : ℕ → ℕ → Bool) (most n : ℕ) (v w : View) (run : Running prompt go most n v w) (all : most ≤ n) where
   pub counted : Keeps prompt (ltb n most && none_left w.ahead) 0 v w
   counted =
-      subst (λ (b : Bool). Keeps prompt (b && none_left w.ahead) 0 v w) (sym (not_below n most all)) run.keeps
+      subst (λ (b : Bool). Keeps prompt (b && none_left w.ahead) 0 v w) (sym (le-ltb n most all)) run.keeps
 
   pub run_counted : Skims prompt (ltb n most) 0 (all_of go most v) n v w
   run_counted =

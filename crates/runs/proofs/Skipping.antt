@@ -1,9 +1,9 @@
 -- Blanks as far as they were skipped. Assumes nothing.
-use Rattle.std.proofs.Common.{◌≡◌, ℕ, ◌+◌, ◌<◌, ◌≤◌, Bool, true, false, ◌||◌, eqb, [], ◌∷◌, ◌++◌, length, drop, Some, None, Option, sym, refl, ap, ◌∙◌, subst, arith, length-drop, drop-drop}
+use Rattle.std.proofs.Common.{◌≡◌, ℕ, ◌+◌, ◌<◌, ◌≤◌, Bool, true, false, ◌||◌, eqb, [], ◌∷◌, ◌++◌, length, drop, Some, None, Option, sym, refl, ap, ◌∙◌, subst, arith, length-drop, drop-drop, le-ltb}
 use Rattle.input.specs.View.{View, Sound, Keeps}
 use Rattle.input.specs.Calls.{none_left, Skips}
 use Rattle.input.specs.Tests.{flag}
-use Rattle.input.proofs.Keeping.{still, both, not_below}
+use Rattle.input.proofs.Keeping.{both}
 use Rattle.runs.specs.declared.SkipTabs.{SkipTabs}
 use Rattle.runs.specs.declared.Colon.TheVariants.{Free}
 use Rattle.runs.specs.Runs.{has, goes, separates, blanks_of}
@@ -19,9 +19,6 @@ pub record Skipping (prompt : Bool) (tabs : SkipTabs) (n : ℕ) (tab space : Boo
   pub so_far : length (blanks_of tabs v.ahead) ≡ n + length (blanks_of tabs w.ahead)
   pub tabs_seen : has 0x09 (blanks_of tabs v.ahead) ≡ tab || has 0x09 (blanks_of tabs w.ahead)
   pub spaces_seen : has 0x20 (blanks_of tabs v.ahead) ≡ space || has 0x20 (blanks_of tabs w.ahead)
-
-pub skipped_none : (prompt : Bool) (tabs : SkipTabs) (v : View) → Sound v → Skipping prompt tabs 0 false false v v
-skipped_none prompt tabs v s = record { keeps = still prompt v s; told = refl; ahead = refl; so_far = omega arith; tabs_seen = refl; spaces_seen = refl }
 
 pub so_few : (prompt : Bool) (tabs : SkipTabs) (n : ℕ) (tab space : Bool) (v w : View) → Sound v → Skipping prompt tabs n tab space v w → n < 131072
 so_few prompt tabs n tab space v w s k = omega (arith, k.so_far, run_short (goes (separates tabs) Free) v.ahead, ahead_short v s)
@@ -49,7 +46,7 @@ module _ (prompt : Bool) (tabs : SkipTabs) (n : ℕ) (tab space : Bool) (v u o :
         let len : length w.ahead ≤ length o.ahead = omega (arith, ap length s.ahead ∙ length-drop 1 o.ahead) in
         let some : 0 < length o.ahead = omega (arith, ap length offers.ahead, ap length first.ahead) in
         record {
-          keeps = both prompt false 0 v o w len open_keeps (subst (λ (b : Bool). Keeps prompt b 0 o w) (not_below (length o.ahead) 1 some) s.keeps);
+          keeps = both prompt false 0 v o w len open_keeps (subst (λ (b : Bool). Keeps prompt b 0 o w) (le-ltb (length o.ahead) 1 some) s.keeps);
           told = s.told ∙ offers.told ∙ k.told;
           ahead = s.ahead ∙ ap (drop 1) (offers.ahead ∙ k.ahead) ∙ drop-drop 1 n v.ahead;
           so_far = k.so_far ∙ ap (λ xs. n + length xs) run ∙ omega arith;

@@ -23,6 +23,7 @@ pub fn skip_while<C: Class, I: Input>(input: &mut I) -> usize
 }
 
 /// Takes the longest run of a class, and appends it to a room.
+#[tactic(auto, using(crate::proofs::Asking::fetch_beyond))]
 pub fn fetch_while<C: Class, I: Input>(input: &mut I, room: &mut [u8], filled: usize) -> Fetched
     ensures { Fetches I.Input.prompt true (scan_asks I.Input.prompt) (run_of C.Class.member (I.Input.view input.old).ahead) room.old filled result room.new (I.Input.view input.old) (I.Input.view input.new) }
 {
@@ -34,6 +35,7 @@ pub fn fetch_while<C: Class, I: Input>(input: &mut I, room: &mut [u8], filled: u
 }
 
 /// Takes all up to a breakz or the end, appends it to a room, and leaves the window.
+#[tactic(auto, using(crate::proofs::Asking::fetch_beyond))]
 pub fn fetch_line<I: Input>(input: &mut I, room: &mut [u8], filled: usize) -> Fetched
     ensures { Fetches I.Input.prompt true 0 (run_of not_breakz (I.Input.view input.old).ahead) room.old filled result room.new (I.Input.view input.old) (I.Input.view input.new) }
 {

@@ -60,6 +60,7 @@ pub fn skip_plain<I: Input>(input: &mut I, in_flow: bool) -> usize
 }
 
 /// Takes a plain run, character by character, and appends it to a room.
+#[tactic(auto, using(crate::proofs::Asking::fetch_beyond))]
 pub fn fetch_plain<I: Input>(
     input: &mut I,
     room: &mut [u8],
@@ -76,6 +77,7 @@ pub fn fetch_plain<I: Input>(
 }
 
 /// Takes at most so many characters of a plain run. The flag tells a stop before the count.
+#[tactic(auto, using(crate::proofs::Chunks::skips_none, crate::proofs::Chunks::steps_none))]
 pub fn skip_chunk<I: Input>(input: &mut I, count: usize, in_flow: bool) -> (bool, usize)
     ensures chunk { SkipsChunk I.Input.prompt in_flow count result (I.Input.view input.old) (I.Input.view input.new) }
     ensures steps { StepsChunk I.Input.prompt in_flow count result (I.Input.view input.old) (I.Input.view input.new) }
@@ -90,6 +92,7 @@ pub fn skip_chunk<I: Input>(input: &mut I, count: usize, in_flow: bool) -> (bool
 }
 
 /// The same, appended to a room.
+#[tactic(auto, using(crate::proofs::Chunks::chunk_beyond, crate::proofs::Chunks::steps_beyond, crate::proofs::Chunks::fetches_chunk_none, crate::proofs::Chunks::steps_fetch_none))]
 pub fn fetch_chunk<I: Input>(
     input: &mut I,
     room: &mut [u8],

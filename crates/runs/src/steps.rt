@@ -38,12 +38,13 @@ pub(crate) fn skip_run<C: Class, I: Input>(input: &mut I, colon: Colon, most: us
     requires { Sees colon (I.Input.view input.old).window }
     ensures { Skims I.Input.prompt (nat_lt result most) 0 (take most (run_by (goes C.Class.member colon) (I.Input.view input.old).ahead)) result (I.Input.view input.old) (I.Input.view input.new) }
 {
-    let mut taken = 0;
-    while taken < most && next_of_run::<C, I>(input, colon).is_some() {
+    for taken in 0..most {
+        if next_of_run::<C, I>(input, colon).is_none() {
+            return taken;
+        }
         input.skip();
-        taken += 1;
     }
-    taken
+    most
 }
 
 /// Takes a run, so many characters of it at most, and appends what fits to a room.
@@ -57,9 +58,8 @@ pub(crate) fn fetch_run<C: Class, I: Input>(
     requires { (Sees colon (I.Input.view input.old).window) × (filled ≤ length room.old) }
     ensures { Fetches I.Input.prompt (nat_lt result.count most) 0 (take most (run_by (goes C.Class.member colon) (I.Input.view input.old).ahead)) room.old filled result room.new (I.Input.view input.old) (I.Input.view input.new) }
 {
-    let mut count = 0;
     let mut end = filled;
-    while count < most {
+    for count in 0..most {
         let Some(c) = next_of_run::<C, I>(input, colon) else {
             return Fetched::new(count, end, None);
         };
@@ -68,7 +68,6 @@ pub(crate) fn fetch_run<C: Class, I: Input>(
             Err(refusal) => return Fetched::new(count, end, Some(refusal)),
         }
         input.skip();
-        count += 1;
     }
-    Fetched::new(count, end, None)
+    Fetched::new(most, end, None)
 }

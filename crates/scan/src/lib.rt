@@ -2,9 +2,10 @@
 #![tactic(auto)]
 
 ghost use Rattle.std.specs.Prelude.{◌≡◌, Bool, true, false, ℕ};
+ghost use Rattle.std.specs.Bool.{OnTrue};
 ghost use Rattle.char_traits.specs.Chars.{blank, alpha, yaml_non_space, not_breakz, printable_not_breakz};
 ghost use Rattle.runs.specs.Runs.{run_of, plain_run};
-ghost use Rattle.runs.specs.Scans.{scan_asks, Skims, Fetches, SkipsChunk, FetchesChunk, SkipsBlanks, SkipsToEol};
+ghost use Rattle.runs.specs.Scans.{scan_asks, Skims, Fetches, SkipsChunk, FetchesChunk, StepsChunk, StepsFetch, SkipsBlanks, SkipsToEol};
 
 pub mod rings;
 
@@ -19,6 +20,9 @@ use runs::{Fetched, SkipTabs, WhitespaceResult};
 /// The scanning calls, in the meaning of the input below. Each takes a run of what is ahead; a fetch appends it to a lent room.
 /// A kind of input keeps these bodies, which go character by character, or has its own.
 pub trait Scan: Input {
+    // whether a chunk goes character by character, up to its count
+    ghost by_character: { Bool } = { false };
+
     /// Takes the blanks ahead, and counts them.
     fn skip_while_blank(&mut self) -> usize
     where
@@ -92,7 +96,8 @@ pub trait Scan: Input {
     ) -> (bool, Fetched)
     where
         Self: Sized,
-        ensures { FetchesChunk Self.Input.prompt in_flow count room.old filled result room.new (Self.Input.view self.old) (Self.Input.view self.new) }
+        ensures chunk { FetchesChunk Self.Input.prompt in_flow count room.old filled result room.new (Self.Input.view self.old) (Self.Input.view self.new) }
+        ensures steps { OnTrue Self.by_character (StepsFetch Self.Input.prompt in_flow count room.old filled result room.new (Self.Input.view self.old) (Self.Input.view self.new)) }
     {
         fetch_chunk(self, room, filled, count, in_flow)
     }
@@ -101,7 +106,8 @@ pub trait Scan: Input {
     fn skip_plain_scalar_chunk(&mut self, count: usize, in_flow: bool) -> (bool, usize)
     where
         Self: Sized,
-        ensures { SkipsChunk Self.Input.prompt in_flow count result (Self.Input.view self.old) (Self.Input.view self.new) }
+        ensures chunk { SkipsChunk Self.Input.prompt in_flow count result (Self.Input.view self.old) (Self.Input.view self.new) }
+        ensures steps { OnTrue Self.by_character (StepsChunk Self.Input.prompt in_flow count result (Self.Input.view self.old) (Self.Input.view self.new)) }
     {
         skip_chunk(self, count, in_flow)
     }

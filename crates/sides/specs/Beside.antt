@@ -1,6 +1,6 @@
 -- One list on card and cable. Assumes nothing.
 use Rattle.std.specs.Prelude.{◌≡◌, ℕ, Bool, List}
-use Rattle.error.specs.declared.Ending.{Ending}
+use Rattle.error.specs.Numbers.{Ending}
 use Rattle.input.specs.View.{View}
 use Rattle.reading.specs.declared.call.Step.{Step}
 use Rattle.reading.specs.Line.{Line}

@@ -1,6 +1,6 @@
 -- What the scans of a text promise, from the characters that were taken. Assumes nothing.
 use Rattle.std.proofs.Common.{◌≡◌, ℕ, ◌+◌, ◌≤◌, min, Bool, true, false, cond, ◌&&◌, List, [], ◌∷◌, length, drop, sym, refl, ap, ◌∙◌, subst, arith, length-append, length-take}
-use Rattle.std.proofs.lemmas.List.{drop-drop, take_all}
+use Rattle.std.proofs.lemmas.List.{take_all}
 use Rattle.std.proofs.lemmas.Bool.{false≢true, cond-true, cond-false}
 use Rattle.std.proofs.lemmas.Str.{length-le-encodes}
 use Rattle.error.specs.Limit.{text_limit}
@@ -15,7 +15,8 @@ use Rattle.runs.specs.Scans.{chunk_asks, Skims, Fetches, FetchesChunk}
 use Rattle.text_bytes.specs.Ends.{AppendsRun}
 use Rattle.text_bytes.proofs.Running.{run_front}
 use Rattle.str_input.specs.declared.text.StrInput.{StrInput}
-use Rattle.str_input.specs.Text.{ahead_of, text_view, text_short, Takes}
+use Rattle.str_input.specs.Text.{ahead_of, text_view, Takes}
+use Rattle.str_input.specs.Laws.{text_short}
 
 -- a run is no longer than its text
 pub run_short : (x : StrInput) (go : ℕ → ℕ → Bool) → length (run_by go (ahead_of x)) ≤ text_limit
@@ -23,14 +24,6 @@ run_short x go =
     let run = run_by go (ahead_of x) in
     let l : length run ≡ min (length run) (length (ahead_of x)) = ap length (run_front go (ahead_of x)) ∙ length-take (length run) (ahead_of x) in
     omega (arith, l, length-le-encodes (ahead_of x), text_short x, x.short)
-
-pub takes_both : (k m : ℕ) (x y z : StrInput) → Takes k x y → Takes m y z → Takes (k + m) x z
-takes_both k m x y z s t =
-    record {
-      text = t.text ∙ s.text;
-      window = t.window ∙ s.window;
-      ahead = t.ahead ∙ ap (drop m) s.ahead ∙ drop-drop m k (ahead_of x);
-    }
 
 keeps : (finds : Bool) (asks n : ℕ) (x y : StrInput) → Takes n x y → Keeps false finds asks (text_view x) (text_view y)
 keeps finds asks n x y t =

@@ -1,7 +1,6 @@
 //! A text at hand as an input.
 #![tactic(auto)]
 
-mod bytes;
 pub mod text;
 pub mod text_borrowed;
 pub mod text_input;

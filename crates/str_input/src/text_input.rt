@@ -1,41 +1,36 @@
 //! The text as an input.
 
-ghost use Rattle.std.specs.Prelude.{◌≡◌, ◌<◌, ◌≤◌, false, [], length, Ok, MatchResult};
-ghost use Rattle.std.specs.Str.{IsCharBoundary};
-ghost use Rattle.error.specs.Limit.{text_limit};
+ghost use Rattle.std.specs.Prelude.{◌≡◌, ◌<◌, false, [], Ok, MatchResult};
 ghost use Rattle.error.specs.Numbers.{outcome};
 ghost use Rattle.utf8.specs.Checking.{Checked};
 ghost use Rattle.input.specs.Calls.{none_left, taken_by, Looks, Reads, ReadsInLine, Skips, Tells, Asks};
 ghost use Rattle.input.specs.Tests.{flag, mark, Matches, Marks, marker_in};
-ghost use Rattle.str_input.specs.Bytes.{Placed, begins};
-ghost use Rattle.str_input.specs.Text.{whole, ahead_of, text_view, text_shows, Takes, Widens, Opens, text_sound, text_faithful, text_wide};
+ghost use Rattle.text_bytes.specs.Bytes.{begins};
+ghost use Rattle.text_bytes.specs.Cursors.{Starts};
+ghost use Rattle.str_input.specs.Text.{whole, ahead_of, text_view, text_shows, Takes, Widens, Opens};
+ghost use Rattle.str_input.specs.Laws.{text_sound, text_faithful, text_wide};
 
-use crate::bytes::{begins_with, first_at, marker_at, nth, past};
 use crate::text::StrInput;
 use char_traits::is_breakz;
-use error::{Fault, Place, Refusal};
+use error::{Fault, Refusal};
 use input::{Input, Marker};
-use utf8::text::check_text;
+use text_bytes::cursor::Cursor;
 
 const MOST: usize = 128;
 
 impl<'a> StrInput<'a> {
-    fn at_start(text: &'a [u8]) -> StrInput<'a>
-        requires { (length text.now ≤ text_limit) × (Placed text.now 0) }
-        ensures { Opens text.now result }
+    fn at_start(at: Cursor<'a>) -> StrInput<'a>
+        requires { Starts at.text.now at }
+        ensures { Opens at.entry.text.now result }
     {
-        StrInput {
-            text,
-            place: 0,
-            window: 0,
-        }
+        StrInput { at, window: 0 }
     }
 
     /// The empty text.
     pub fn new() -> StrInput<'a>
         ensures { Opens [] result }
     {
-        StrInput::at_start(&[])
+        StrInput::at_start(Cursor::empty())
     }
 
     /// Puts some bytes in place of the text, if they are a text.
@@ -43,18 +38,17 @@ impl<'a> StrInput<'a> {
         ensures checked { Checked bytes.now (outcome (λ _. []) result) }
         ensures loads { MatchResult result (λ _. Opens bytes.now self.new) (λ _. self.new ≡ self.old) }
     {
-        check_text(bytes)?;
-        *self = StrInput::at_start(bytes);
+        let at = Cursor::start(bytes)?;
+        *self = StrInput::at_start(at);
         Ok(())
     }
 
-    pub(crate) fn move_to(&mut self, next: usize)
-        requires { IsCharBoundary (whole self.old) next }
-        ensures text { whole self.new ≡ whole self.old }
-        ensures place { self.new.place ≡ next }
+    pub(crate) fn move_to(&mut self, next: Cursor<'a>)
+        requires { next.text.now ≡ whole self.old }
+        ensures at { self.new.at ≡ next.entry }
         ensures window { self.new.window ≡ self.old.window }
     {
-        self.place = next as Place;
+        self.at = next;
     }
 }
 
@@ -92,7 +86,7 @@ impl Input for StrInput<'_> {
         ensures reads { Reads false result (text_view self.old) (text_view self.new) }
         ensures takes { Takes 1 self.old self.new }
     {
-        match first_at(self.text, self.place as usize) {
+        match self.at.first() {
             Some((c, next)) => {
                 self.move_to(next);
                 c
@@ -105,7 +99,7 @@ impl Input for StrInput<'_> {
         ensures reads { ReadsInLine false result (text_view self.old) (text_view self.new) }
         ensures takes { Takes (taken_by result) self.old self.new }
     {
-        match first_at(self.text, self.place as usize) {
+        match self.at.first() {
             Some((c, next)) if !is_breakz(c) => {
                 self.move_to(next);
                 Some(c)
@@ -125,42 +119,40 @@ impl Input for StrInput<'_> {
         ensures skips { Skips false count (text_view self.old) (text_view self.new) }
         ensures takes { Takes count self.old self.new }
     {
-        self.move_to(past(self.text, self.place as usize, count));
+        let end = self.at.past(count);
+        self.move_to(end);
     }
 
     fn next_ch(&mut self) -> Option<char>
         ensures tells { Tells false result (text_view self.old) (text_view self.new) }
         ensures takes { Takes 0 self.old self.new }
     {
-        match first_at(self.text, self.place as usize) {
-            Some((c, _)) => Some(c),
-            None => None,
-        }
+        self.at.first().map(|(c, _)| c)
     }
 
     fn peek_nth(&self, n: usize) -> char {
-        nth(self.text, self.place as usize, n)
+        self.at.nth(n)
     }
 
     fn next_is_z(&self) -> bool
         ensures windowed { 0 < (text_view self.now).window → result ≡ none_left (text_view self.now).ahead }
         ensures ended { result ≡ none_left (ahead_of self.now) }
     {
-        self.place as usize == self.text.len()
+        self.at.is_end()
     }
 
     fn next_are(&self, wanted: &[char]) -> Result<bool, Refusal>
         ensures matches { Matches wanted.now (text_view self.now).window (text_shows self.now) (outcome flag result) }
         ensures there { result ≡ Ok (begins wanted.now (ahead_of self.now)) }
     {
-        Ok(begins_with(self.text, self.place as usize, wanted))
+        Ok(self.at.begins_with(wanted))
     }
 
     fn next_marker(&self) -> Result<Option<Marker>, Refusal>
         ensures marks { Marks (text_view self.now).window (text_shows self.now) (outcome mark result) }
         ensures marked { result ≡ Ok (marker_in (text_shows self.now)) }
     {
-        Ok(marker_at(self.text, self.place as usize))
+        Ok(self.at.marker())
     }
 
     fn take_source_error(&mut self) -> Option<Fault>

@@ -5,7 +5,7 @@ ghost use Rattle.char_traits.specs.Chars.{blank, alpha, yaml_non_space, not_brea
 ghost use Rattle.runs.specs.Runs.{goes, run_by, run_of, plain_run, at_hash};
 ghost use Rattle.runs.specs.Rooms.{beyond};
 ghost use Rattle.runs.specs.Scans.{scan_asks, Skims, Fetches, SkipsChunk, FetchesChunk, SkipsBlanks, SkipsToEol};
-ghost use Rattle.str_input.specs.Text.{whole, ahead_of, text_view, Takes, TakesWide};
+ghost use Rattle.str_input.specs.Text.{ahead_of, text_view, Takes, TakesWide};
 ghost use Rattle.text_bytes.specs.Ends.{AppendsRun};
 
 use crate::text::StrInput;
@@ -16,16 +16,13 @@ use error::Refusal;
 use input::Input;
 use runs::{Colon, Fetched, SkipTabs, WhitespaceResult};
 use scan::Scan;
-use text_bytes::bytes::nth;
-use text_bytes::ends::{blanks_end, run_end};
-use text_bytes::parts::fetch_run;
 
 impl StrInput<'_> {
     fn skip_run<C: Class>(&mut self, colon: Colon) -> usize
         ensures number { result ≡ length (run_by (goes C.Class.member colon) (ahead_of self.old)) }
         ensures takes { Takes result self.old self.new }
     {
-        let (end, count) = run_end::<C>(self.text, self.place as usize, colon);
+        let (end, count) = self.at.run_end::<C>(colon);
         self.move_to(end);
         count
     }
@@ -35,10 +32,10 @@ impl StrInput<'_> {
         ensures takes { Takes result.count self.old self.new }
         ensures unmoved { beyond room.old filled ≡ true → self.new ≡ self.old }
     {
-        let (place, fetched) = fetch_run::<C>(self.text, self.place as usize, colon, room, filled);
+        let (end, fetched) = self.at.fetch_run::<C>(colon, room, filled);
         // A fetch that takes nothing leaves the reader as it was.
         if fetched.count > 0 {
-            self.move_to(place);
+            self.move_to(end);
         }
         fetched
     }
@@ -69,7 +66,7 @@ impl StrInput<'_> {
     fn is_at_hash(&self) -> bool
         ensures { result ≡ at_hash (ahead_of self.now) }
     {
-        nth(self.text, self.place as usize, 0) == '#'
+        self.at.nth(0) == '#'
     }
 }
 
@@ -131,13 +128,14 @@ impl Scan for StrInput<'_> {
         ensures skips { SkipsBlanks false skip_tabs result (text_view self.old) (text_view self.new) }
         ensures takes { Takes result.0 self.old self.new }
     {
-        let start = self.place as usize;
-        let (end, seen) = blanks_end(self.text, start, skip_tabs);
+        let start = self.at.place;
+        let (end, seen) = self.at.blanks_end(skip_tabs);
         self.move_to(end);
-        (end - start, seen)
+        (end.place - start, seen)
     }
 
     /// The whole plain run, whatever the count.
+    #[tactic(auto, using(crate::proofs::Scanning::fetches_chunk))]
     fn fetch_plain_scalar_chunk(
         &mut self,
         room: &mut [u8],

@@ -8,10 +8,11 @@ use Rattle.runs.specs.Scans.{flags_of}
 use Rattle.runs.specs.declared.SkipTabs.{SkipTabs}
 use Rattle.runs.specs.declared.SkipTabs.TheVariants.{Yes, No}
 use Rattle.runs.specs.declared.Colon.TheVariants.{Free}
-use Rattle.text_bytes.specs.Bytes.{Placed, ahead_at, Steps}
+use Rattle.text_bytes.specs.declared.cursor.Cursor.{Cursor}
+use Rattle.text_bytes.specs.Bytes.{Placed, ahead_at}
 use Rattle.text_bytes.specs.Ends.{Ends}
-use Rattle.text_bytes.proofs.Places.{none_ahead, step_ascii, first_char}
-use Rattle.text_bytes.proofs.Running.{Running, running_none, running_more, running_stops, running_out}
+use Rattle.text_bytes.proofs.Places.{StepsAt, moved, ahead_too, none_ahead, step_ascii, first_char}
+use Rattle.text_bytes.proofs.Running.{Running, running_none, running_more, running_stops, running_out, run_ends}
 
 low : (tabs : SkipTabs) (b : ℕ) → separates tabs b ≡ true → b < 128
 low Yes b e = grind (arith, nat_tests)
@@ -34,89 +35,105 @@ or_false : (x : Bool) → (x || false) ≡ x
 or_false true = refl
 or_false false = refl
 
-module _ (tabs : SkipTabs) (text : List ℕ) (at : ℕ) where
+module _ (tabs : SkipTabs) (x : Cursor) where
+  abbrev ahead : ℕ → List ℕ
+  ahead place = ahead_at x.text.now place
+
   abbrev blanks_at : ℕ → List ℕ
-  blanks_at place = blanks_of tabs (ahead_at text place)
+  blanks_at place = blanks_of tabs (ahead place)
 
   -- the blanks behind the place are counted, and which kinds were among them
   pub record Blanking (place : ℕ) (found spaces : Bool) : Type 0 where
-    pub order : at ≤ place
-    pub running : Running (goes (separates tabs) Free) text at place (place - at)
-    pub tab : has 0x09 (blanks_at at) ≡ (found || has 0x09 (blanks_at place))
-    pub space : has 0x20 (blanks_at at) ≡ (spaces || has 0x20 (blanks_at place))
+    pub order : x.place ≤ place
+    pub placed : Placed x.text.now place
+    pub running : Running (goes (separates tabs) Free) (ahead x.place) (ahead place) (place - x.place)
+    pub tab : has 0x09 (blanks_at x.place) ≡ (found || has 0x09 (blanks_at place))
+    pub space : has 0x20 (blanks_at x.place) ≡ (spaces || has 0x20 (blanks_at place))
 
-  pub blanking_none : Placed text at → Blanking at false false
-  blanking_none p =
+  pub blanking_none : Blanking x.place false false
+  blanking_none =
       record {
         order = omega arith;
-        running = subst (Running (goes (separates tabs) Free) text at at) (omega arith) (running_none (goes (separates tabs) Free) text at p);
+        placed = x.placed;
+        running = subst (λ (n : ℕ). Running (goes (separates tabs) Free) (ahead x.place) (ahead x.place) n) (omega arith) (running_none (goes (separates tabs) Free) (ahead x.place));
         tab = refl;
         space = refl;
       }
 
   pub blanking_as : (place : ℕ) (f g s t : Bool) → f ≡ g → s ≡ t → Blanking place g t → Blanking place f s
-  blanking_as place f g s t e h b = subst (λ (x : Bool). Blanking place x s) (sym e) (subst (λ (x : Bool). Blanking place g x) (sym h) b)
+  blanking_as place f g s t e h b = subst (λ (a : Bool). Blanking place a s) (sym e) (subst (λ (a : Bool). Blanking place g a) (sym h) b)
 
-  module _ (place : ℕ) (found spaces : Bool) (s : Blanking place found spaces) (inside : place < length text) where
-    step : separates tabs (get_or text place 0) ≡ true → Steps text place (get_or text place 0) (place + 1)
-    step e = step_ascii text place (get_or text place 0) s.running.placed inside refl (low tabs (get_or text place 0) e)
+  module _ (place : ℕ) (found spaces : Bool) (s : Blanking place found spaces) (inside : place < length x.text.now) where
+    step : separates tabs (get_or x.text.now place 0) ≡ true → StepsAt x.text.now place (get_or x.text.now place 0) (place + 1)
+    step e = step_ascii x.text.now place (get_or x.text.now place 0) s.placed inside refl (low tabs (get_or x.text.now place 0) e)
 
-    run : (e : separates tabs (get_or text place 0) ≡ true) → Running (goes (separates tabs) Free) text at (place + 1) (place + 1 - at)
+    next : separates tabs (get_or x.text.now place 0) ≡ true → Placed x.text.now (place + 1)
+    next e = moved x.text.now place (place + 1) s.placed (step e).boundary
+
+    run : (e : separates tabs (get_or x.text.now place 0) ≡ true) → Running (goes (separates tabs) Free) (ahead x.place) (ahead (place + 1)) (place + 1 - x.place)
     run e =
         let o = s.order in
-        subst (Running (goes (separates tabs) Free) text at (place + 1)) (omega arith)
-        (running_more (goes (separates tabs) Free) text at place (place - at) s.running (get_or text place 0) (place + 1) (separates tabs (get_or text place 0)) (step e) refl e)
+        subst (Running (goes (separates tabs) Free) (ahead x.place) (ahead (place + 1))) (omega arith)
+        (running_more (goes (separates tabs) Free) (ahead x.place) (ahead place) (place - x.place) s.running (get_or x.text.now place 0) (ahead (place + 1))
+        (separates tabs (get_or x.text.now place 0)) (step e).first refl e)
 
-    more : (e : separates tabs (get_or text place 0) ≡ true) → blanks_at place ≡ get_or text place 0 ∷ blanks_at (place + 1)
-    more e = ap (blanks_of tabs) (step e).first ∙ cond-true (separates tabs (get_or text place 0)) _ _ e
+    more : (e : separates tabs (get_or x.text.now place 0) ≡ true) → blanks_at place ≡ get_or x.text.now place 0 ∷ blanks_at (place + 1)
+    more e = ap (blanks_of tabs) (step e).first ∙ cond-true (separates tabs (get_or x.text.now place 0)) _ _ e
 
     -- one more of a kind, and none more of the other
-    one : (c : ℕ) (b : Bool) (rest : List ℕ) → get_or text place 0 ≡ c → (b || has c (get_or text place 0 ∷ rest)) ≡ (true || has c rest)
-    one c b rest e = ap (λ t. b || (t || has c rest)) (eq-eqb (get_or text place 0) c e) ∙ or_true b
+    one : (c : ℕ) (b : Bool) (rest : List ℕ) → get_or x.text.now place 0 ≡ c → (b || has c (get_or x.text.now place 0 ∷ rest)) ≡ (true || has c rest)
+    one c b rest e = ap (λ t. b || (t || has c rest)) (eq-eqb (get_or x.text.now place 0) c e) ∙ or_true b
 
-    other : (c : ℕ) (b : Bool) (rest : List ℕ) → (get_or text place 0 ≡ c → ⊥) → (b || has c (get_or text place 0 ∷ rest)) ≡ (b || has c rest)
-    other c b rest e = ap (λ t. b || (t || has c rest)) (ne_eqb (get_or text place 0) c e)
+    other : (c : ℕ) (b : Bool) (rest : List ℕ) → (get_or x.text.now place 0 ≡ c → ⊥) → (b || has c (get_or x.text.now place 0 ∷ rest)) ≡ (b || has c rest)
+    other c b rest e = ap (λ t. b || (t || has c rest)) (ne_eqb (get_or x.text.now place 0) c e)
 
-    pub blanking_tab : separates tabs (get_or text place 0) ≡ true → get_or text place 0 ≡ 9 → Blanking (place + 1) true spaces
+    pub blanking_tab : separates tabs (get_or x.text.now place 0) ≡ true → get_or x.text.now place 0 ≡ 9 → Blanking (place + 1) true spaces
     blanking_tab e is =
         record {
           order = omega (arith, s.order);
+          placed = next e;
           running = run e;
           tab = s.tab ∙ ap (λ xs. found || has 0x09 xs) (more e) ∙ one 9 found (blanks_at (place + 1)) is;
           space = s.space ∙ ap (λ xs. spaces || has 0x20 xs) (more e) ∙ other 32 spaces (blanks_at (place + 1)) (omega arith);
         }
 
-    pub blanking_space : separates tabs (get_or text place 0) ≡ true → (get_or text place 0 ≡ 9 → ⊥) → Blanking (place + 1) found true
+    pub blanking_space : separates tabs (get_or x.text.now place 0) ≡ true → (get_or x.text.now place 0 ≡ 9 → ⊥) → Blanking (place + 1) found true
     blanking_space e is =
         record {
           order = omega (arith, s.order);
+          placed = next e;
           running = run e;
           tab = s.tab ∙ ap (λ xs. found || has 0x09 xs) (more e) ∙ other 9 found (blanks_at (place + 1)) is;
-          space = s.space ∙ ap (λ xs. spaces || has 0x20 xs) (more e) ∙ one 32 spaces (blanks_at (place + 1)) (space tabs (get_or text place 0) e is);
+          space = s.space ∙ ap (λ xs. spaces || has 0x20 xs) (more e) ∙ one 32 spaces (blanks_at (place + 1)) (space tabs (get_or x.text.now place 0) e is);
         }
 
   -- what is known where the blanks end
-  pub record Blanked (place : ℕ) (found spaces : Bool) : Type 0 where
-    pub ends : Ends text at (blanks_at at) place (place - at)
-    pub seen : flag found ++ flag spaces ≡ flags_of (blanks_at at)
+  pub record Blanked (y : Cursor) (found spaces : Bool) : Type 0 where
+    pub ends : Ends x (blanks_at x.place) y (y.place - x.place)
+    pub seen : flag found ++ flag spaces ≡ flags_of (blanks_at x.place)
 
-  module _ (p : Placed text at) (place : ℕ) (found spaces : Bool) (s : Blanking place found spaces) where
-    seen : blanks_at place ≡ [] → flag found ++ flag spaces ≡ flags_of (blanks_at at)
-    seen e =
-        sym
-        (ap₂ (λ x y. flag x ++ flag y) (s.tab ∙ ap (λ xs. found || has 0x09 xs) e ∙ or_false found)
-        (s.space ∙ ap (λ xs. spaces || has 0x20 xs) e ∙ or_false spaces))
-
-    pub blanked_out : length text ≤ place → Blanked place found spaces
-    blanked_out h =
-        let e = none_ahead text place h in
-        record { ends = running_out (goes (separates tabs) Free) text at place (place - at) s.running p e; seen = seen (ap (blanks_of tabs) e) }
-
-    pub blanked_stops : place < length text → separates tabs (get_or text place 0) ≡ false → Blanked place found spaces
-    blanked_stops h e =
-        let f = first_char text place s.running.placed h in
-        let is = same tabs (get_or text place 0) f.c f.byte f.character in
+  module _ (y : Cursor) (same_text : y.text.now ≡ x.text.now) (found spaces : Bool) (s : Blanking y.place found spaces) where
+    blanked : length (blanks_at x.place) ≡ y.place - x.place → blanks_at y.place ≡ [] → Blanked y found spaces
+    blanked is e =
+        let r = subst (λ (l : List ℕ). Running (goes (separates tabs) Free) (ahead x.place) l (y.place - x.place)) (ahead_too x y same_text) s.running in
         record {
-          ends = running_stops (goes (separates tabs) Free) text at place (place - at) s.running p f.c f.next (separates tabs (get_or text place 0)) f.steps is e;
-          seen = seen (ap (blanks_of tabs) f.steps.first ∙ cond-false (separates tabs f.c) _ _ (sym is ∙ e));
+          ends = run_ends (goes (separates tabs) Free) x y (y.place - x.place) same_text r is;
+          seen =
+              sym
+              (ap₂ (λ a b. flag a ++ flag b) (s.tab ∙ ap (λ xs. found || has 0x09 xs) e ∙ or_false found)
+              (s.space ∙ ap (λ xs. spaces || has 0x20 xs) e ∙ or_false spaces));
         }
+
+    pub blanked_out : length x.text.now ≤ y.place → Blanked y found spaces
+    blanked_out h =
+        let e = none_ahead x.text.now y.place h in
+        blanked (running_out (goes (separates tabs) Free) (ahead x.place) (ahead y.place) (y.place - x.place) s.running e) (ap (blanks_of tabs) e)
+
+    pub blanked_stops : y.place < length x.text.now → separates tabs (get_or x.text.now y.place 0) ≡ false → Blanked y found spaces
+    blanked_stops h e =
+        let f = first_char x.text.now y.place s.placed h in
+        let is = same tabs (get_or x.text.now y.place 0) f.c f.byte f.character in
+        blanked
+        (running_stops (goes (separates tabs) Free) (ahead x.place) (ahead y.place) (y.place - x.place) s.running f.c (ahead f.next)
+        (separates tabs (get_or x.text.now y.place 0)) f.steps.first is e)
+        (ap (blanks_of tabs) f.steps.first ∙ cond-false (separates tabs f.c) _ _ (sym is ∙ e))

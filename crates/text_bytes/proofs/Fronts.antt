@@ -1,6 +1,6 @@
 -- Characters wanted, held against those ahead, one after the other. Assumes nothing.
-use Rattle.std.proofs.Common.{◌≡◌, ℕ, ◌+◌, ◌<◌, ◌≤◌, true, false, not, ◌&&◌, eqb, List, [], ◌∷◌, length, get_or, drop, sym, refl, ap, ◌∙◌}
-use Rattle.std.proofs.lemmas.List.{drop_more, drop_all}
+use Rattle.std.proofs.Common.{◌≡◌, ℕ, ◌+◌, ◌<◌, true, false, not, ◌&&◌, eqb, List, [], ◌∷◌, length, get_or, drop, sym, refl, ap, ◌∙◌}
+use Rattle.std.proofs.lemmas.List.{drop_more}
 use Rattle.std.proofs.lemmas.Bool.{eq-eqb, ne_eqb, and_parts, not-true, eqb-false}
 use Rattle.input.specs.Tests.{found, without_nul}
 use Rattle.text_bytes.specs.Bytes.{shows, begins}
@@ -18,9 +18,6 @@ module _ (wanted ahead : List ℕ) (n want : ℕ) (more : n < length wanted) (is
 
   pub begins_none : ahead ≡ [] → begins (drop n wanted) ahead ≡ false
   begins_none e = at ∙ ap (begins (want ∷ drop (n + 1) wanted)) e
-
-pub begins_all : (wanted ahead : List ℕ) (n : ℕ) → length wanted ≤ n → begins (drop n wanted) ahead ≡ true
-begins_all wanted ahead n h = ap (λ ws. begins ws ahead) (drop_all n wanted h)
 
 -- unless a NUL is wanted, the padding past the end does not count
 pub begins_found : (wanted ahead : List ℕ) → without_nul wanted ≡ true → begins wanted ahead ≡ found (shows ahead) wanted

@@ -1,3 +1,4 @@
+pub mod Starting
 pub mod Places
 pub mod Runs
 pub mod Fronts

@@ -1,18 +1,17 @@
 -- A document marker is known by its bytes. Assumes nothing.
 use Rattle.std.proofs.Common.{◌≡◌, ℕ, ◌+◌, ◌<◌, true, false, ◌&&◌, ◌||◌, eqb, List, ◌∷◌, length, get_or, sym, refl, ap, ◌∙◌, subst, inl, inr, arith}
-use Rattle.std.proofs.lemmas.Bool.{and_parts, and_from, eqb-true, eq-eqb, ne_eqb, cases_lt}
+use Rattle.std.proofs.lemmas.Bool.{and_parts, and_from, eqb-true, eq-eqb, ne_eqb, cases_lt, false_from_ne_true}
 use Rattle.std.proofs.lemmas.Bool.Decides.{nat_tests}
 use Rattle.char_traits.specs.Chars.{blank_or_breakz}
 use Rattle.input.specs.Tests.{thrice}
-use Rattle.input.proofs.Keeping.{is_false}
-use Rattle.text_bytes.specs.Bytes.{Placed, ahead_at, shows, Steps, Thrice}
-use Rattle.text_bytes.proofs.Places.{moved, none_ahead, first_char, step_ascii}
+use Rattle.text_bytes.specs.Bytes.{Placed, ahead_at, shows, Thrice}
+use Rattle.text_bytes.proofs.Places.{StepsAt, moved, none_ahead, first_char, step_ascii}
 
 -- an ASCII character that is shown is the byte there
 pub record Leads (text : List ℕ) (at c : ℕ) : Type 0 where
   pub inside : at < length text
   pub byte : get_or text at 0 ≡ c
-  pub steps : Steps text at c (at + 1)
+  pub steps : StepsAt text at c (at + 1)
 
 leads : (text : List ℕ) (at c : ℕ) → Placed text at → 0 < c → c < 128 → get_or (ahead_at text at) 0 0 ≡ c → Leads text at c
 leads text at c p some low is =
@@ -37,11 +36,11 @@ module _ (text : List ℕ) (at c : ℕ) (p : Placed text at) (low : c < 128) whe
       let q = moved text at (at + 1) p a.boundary in
       let b = step_ascii text (at + 1) c q (omega arith) (sym t.second) low in
       let i : at + 1 + 1 ≡ at + 2 = omega arith in
-      let b' : Steps text (at + 1) c (at + 2) = subst (Steps text (at + 1) c) i b in
+      let b' : StepsAt text (at + 1) c (at + 2) = subst (StepsAt text (at + 1) c) i b in
       let r = moved text at (at + 2) p b'.boundary in
       let d = step_ascii text (at + 2) c r (omega arith) (sym t.third) low in
       let j : at + 2 + 1 ≡ at + 3 = omega arith in
-      let d' : Steps text (at + 2) c (at + 3) = subst (Steps text (at + 2) c) j d in
+      let d' : StepsAt text (at + 2) c (at + 3) = subst (StepsAt text (at + 2) c) j d in
       record {
         ahead = a.first ∙ ap (λ xs. c ∷ xs) (b'.first ∙ ap (λ xs. c ∷ xs) d'.first);
         placed = moved text at (at + 3) p d'.boundary;
@@ -93,5 +92,5 @@ module _ (text : List ℕ) (at c : ℕ) (p : Placed text at) (some : 0 < c) (low
 
   pub no_marker : (Thrice text at c → ⊥) → false ≡ (thrice c (shows (ahead_at text at)) && blank_or_breakz (shows (ahead_at text at) 3))
   no_marker n =
-      let e = is_false (thrice c (shows (ahead_at text at))) (λ h. n (bytes_thrice text at c p low some h)) in
+      let e = false_from_ne_true (thrice c (shows (ahead_at text at))) (λ h. n (bytes_thrice text at c p low some h)) in
       sym (ap (λ b. b && blank_or_breakz (shows (ahead_at text at) 3)) e)

@@ -9,13 +9,28 @@ use Rattle.std.specs.Str.{IsCharBoundary, chars}
 use Rattle.utf8.specs.Decoding.{IsChar, IsIll}
 use Rattle.utf8.proofs.Leads.{opens, wide, never_ill}
 use Rattle.input.specs.Calls.{none_left}
-use Rattle.text_bytes.specs.Bytes.{Placed, ahead_at, Steps}
+use Rattle.text_bytes.specs.declared.cursor.Cursor.{Cursor}
+use Rattle.text_bytes.specs.Bytes.{Placed, ahead_at}
+use Rattle.text_bytes.specs.Cursors.{ahead_from}
+
+-- a character at a place, and the place after it
+pub record StepsAt (text : List ℕ) (at c next : ℕ) : Type 0 where
+  pub first : ahead_at text at ≡ c ∷ ahead_at text next
+  pub boundary : IsCharBoundary text next
 
 pub rest_is_text : (text : List ℕ) (at : ℕ) → Placed text at → IsUtf8 (drop at text)
 rest_is_text text at p = IsUtf8-drop text at (chars text, (p.characters, p.formed)) p.boundary
 
 pub moved : (text : List ℕ) (at next : ℕ) → Placed text at → IsCharBoundary text next → Placed text next
 moved text at next p b = record { formed = p.formed; characters = p.characters; boundary = b }
+
+-- another place in the same text
+module _ (x y : Cursor) (same : y.text.now ≡ x.text.now) where
+  pub placed_too : Placed x.text.now y.place
+  placed_too = subst (λ (text : List ℕ). Placed text y.place) same y.placed
+
+  pub ahead_too : ahead_at x.text.now y.place ≡ ahead_from y
+  ahead_too = ap (λ text. ahead_at text y.place) (sym same)
 
 pub none_ahead : (text : List ℕ) (at : ℕ) → length text ≤ at → ahead_at text at ≡ []
 none_ahead text at h = ap chars (drop_all at text h) ∙ chars-nil
@@ -36,7 +51,7 @@ never text at p ill =
     let o = opened (drop at text) (rest_is_text text at p) ill.some in
     never_ill (drop at text) o.c o.tail o.character o.is ill
 
-pub step : (text tail : List ℕ) (at c : ℕ) → Placed text at → drop at text ≡ encode c ++ tail → Steps text at c (at + len_utf8 c)
+pub step : (text tail : List ℕ) (at c : ℕ) → Placed text at → drop at text ≡ encode c ++ tail → StepsAt text at c (at + len_utf8 c)
 step text tail at c p e =
     let u = rest_is_text text at p in
     record {
@@ -44,25 +59,25 @@ step text tail at c p e =
       boundary = IsCharBoundary-past_char text tail at c p.boundary.0 u e;
     }
 
-pub step_char : (text : List ℕ) (at c w : ℕ) → Placed text at → IsChar (drop at text) c w → Steps text at c (at + w)
+pub step_char : (text : List ℕ) (at c w : ℕ) → Placed text at → IsChar (drop at text) c w → StepsAt text at c (at + w)
 step_char text at c w p is =
     let e : len_utf8 c ≡ w = sym (length-encode c) ∙ wide (drop at text) c w is in
-    subst (λ (k : ℕ). Steps text at c (at + k)) e (step text (drop w (drop at text)) at c p (opens (drop at text) c w is))
+    subst (λ (k : ℕ). StepsAt text at c (at + k)) e (step text (drop w (drop at text)) at c p (opens (drop at text) c w is))
 
-pub step_ascii : (text : List ℕ) (at b : ℕ) → Placed text at → at < length text → b ≡ get_or text at 0 → b < 128 → Steps text at b (at + 1)
+pub step_ascii : (text : List ℕ) (at b : ℕ) → Placed text at → at < length text → b ≡ get_or text at 0 → b < 128 → StepsAt text at b (at + 1)
 step_ascii text at b p h is low =
     let l = length-drop at text in
     let o = opened (drop at text) (rest_is_text text at p) (omega arith) in
     let first : get_or (drop at text) 0 0 ≡ b = get_or-drop at text 0 0 ∙ ap (λ k. get_or text k 0) (omega arith) ∙ sym is in
     let same : o.c ≡ b = char_from_byte (drop at text) o.tail o.c o.is (omega arith) (omega arith) ∙ first in
     let e : drop at text ≡ encode b ++ o.tail = o.is ∙ ap (λ c. encode c ++ o.tail) same in
-    subst (λ (k : ℕ). Steps text at b (at + k)) (len_utf8_ascii b low) (step text o.tail at b p e)
+    subst (λ (k : ℕ). StepsAt text at b (at + k)) (len_utf8_ascii b low) (step text o.tail at b p e)
 
 -- the character at a place, and its first byte
 pub record First (text : List ℕ) (at : ℕ) : Type 0 where
   pub c : ℕ
   pub next : ℕ
-  pub steps : Steps text at c next
+  pub steps : StepsAt text at c next
   pub byte : c < 128 → get_or text at 0 ≡ c
   pub character : get_or text at 0 < 128 → c ≡ get_or text at 0
 

@@ -4,9 +4,11 @@ use lib.Utf8.{encodes}
 use Rattle.std.proofs.lemmas.List.{take_at}
 use Rattle.std.proofs.lemmas.Str.{encodes-append, encodes-chars}
 use Rattle.runs.specs.Runs.{run_by}
-use Rattle.text_bytes.specs.Bytes.{Placed, ahead_at, Steps}
+use Rattle.text_bytes.specs.declared.cursor.Cursor.{Cursor}
+use Rattle.text_bytes.specs.Bytes.{Placed, ahead_at}
+use Rattle.text_bytes.specs.Cursors.{ahead_from}
 use Rattle.text_bytes.specs.Ends.{Ends}
-use Rattle.text_bytes.proofs.Places.{rest_is_text, moved}
+use Rattle.text_bytes.proofs.Places.{rest_is_text, placed_too, ahead_too}
 use Rattle.text_bytes.proofs.Runs.{one_more}
 
 -- a run is a front
@@ -37,47 +39,48 @@ taken text at place n p q e =
     let far : place ≡ at + length front = omega (arith, s, length-drop at text, length-drop place text) in
     record { far = far; bytes = sym (ap (take (place - at)) split ∙ take_at front (drop place text) (place - at) (omega arith)) }
 
--- a front of what is ahead ends there
-pub front_ends : (text : List ℕ) (at place n : ℕ) (run : List ℕ) → Placed text at → Placed text place → ahead_at text place ≡ drop n (ahead_at text at)
-    → length run ≡ n → run ≡ take (length run) (ahead_at text at) → Ends text at run place n
-front_ends text at place n run p q e is front =
-    let all = ahead_at text at in
-    let t = taken text at place n p q e in
-    record {
-      number = sym is;
-      order = omega (arith, t.far);
-      boundary = q.boundary;
-      ahead = e ∙ ap (λ k. drop k all) (sym is);
-      bytes = ap encodes (front ∙ ap (λ k. take k all) is) ∙ t.bytes;
-    }
+-- a later place in the same text, n characters on
+module _ (x y : Cursor) (n : ℕ) (same : y.text.now ≡ x.text.now) (e : ahead_from y ≡ drop n (ahead_from x)) where
+  pub taken_from : Taken x.text.now x.place y.place n
+  taken_from = taken x.text.now x.place y.place n x.placed (placed_too x y same) (ahead_too x y same ∙ e)
 
--- n characters of a run are behind the place
-module _ (go : ℕ → ℕ → Bool) (text : List ℕ) (at : ℕ) where
-  pub record Running (place n : ℕ) : Type 0 where
-    pub placed : Placed text place
-    pub ahead : ahead_at text place ≡ drop n (ahead_at text at)
-    pub run : length (run_by go (ahead_at text at)) ≡ n + length (run_by go (ahead_at text place))
+  -- a front of what is ahead ends there
+  pub front_ends : (run : List ℕ) → length run ≡ n → run ≡ take (length run) (ahead_from x) → Ends x run y n
+  front_ends run is front =
+      let all = ahead_from x in
+      let t = taken_from in
+      record {
+        text = same;
+        number = sym is;
+        order = omega (arith, t.far);
+        ahead = e ∙ ap (λ k. drop k all) (sym is);
+        bytes = ap encodes (front ∙ ap (λ k. take k all) is) ∙ t.bytes;
+      }
 
-  pub running_none : Placed text at → Running at 0
-  running_none p = record { placed = p; ahead = refl; run = omega arith }
+-- n characters of a run were taken
+module _ (go : ℕ → ℕ → Bool) (all : List ℕ) where
+  pub record Running (left : List ℕ) (n : ℕ) : Type 0 where
+    pub ahead : left ≡ drop n all
+    pub run : length (run_by go all) ≡ n + length (run_by go left)
 
-  module _ (place n : ℕ) (r : Running place n) where
-    pub running_more : (c next : ℕ) (b : Bool) → Steps text place c next → b ≡ go c (get_or (ahead_at text next) 0 0) → b ≡ true → Running next (n + 1)
-    running_more c next b s is on =
-        let e = ap (λ xs. length (run_by go xs)) s.first ∙ ap (λ t. length (cond t (c ∷ run_by go (ahead_at text next)) [])) (sym is ∙ on) in
-        record {
-          placed = moved text place next r.placed s.boundary;
-          ahead = one_more (ahead_at text at) (ahead_at text place) n r.ahead c (ahead_at text next) s.first;
-          run = omega (arith, e, r.run);
-        }
+  pub running_none : Running all 0
+  running_none = record { ahead = refl; run = omega arith }
 
-    ended : Placed text at → length (run_by go (ahead_at text place)) ≡ 0 → Ends text at (run_by go (ahead_at text at)) place n
-    ended p none = front_ends text at place n (run_by go (ahead_at text at)) p r.placed r.ahead (omega (arith, r.run, none)) (run_front go (ahead_at text at))
+  module _ (left : List ℕ) (n : ℕ) (r : Running left n) where
+    pub running_more : (c : ℕ) (rest : List ℕ) (b : Bool) → left ≡ c ∷ rest → b ≡ go c (get_or rest 0 0) → b ≡ true → Running rest (n + 1)
+    running_more c rest b s is on =
+        let e = ap (λ xs. length (run_by go xs)) s ∙ ap (λ t. length (cond t (c ∷ run_by go rest) [])) (sym is ∙ on) in
+        record { ahead = one_more all left n r.ahead c rest s; run = omega (arith, e, r.run) }
 
-    pub running_stops : Placed text at → (c next : ℕ) (b : Bool) → Steps text place c next → b ≡ go c (get_or (ahead_at text next) 0 0) → b ≡ false
-        → Ends text at (run_by go (ahead_at text at)) place n
-    running_stops p c next b s is off =
-        ended p (ap (λ xs. length (run_by go xs)) s.first ∙ ap (λ t. length (cond t (c ∷ run_by go (ahead_at text next)) [])) (sym is ∙ off))
+    pub running_stops : (c : ℕ) (rest : List ℕ) (b : Bool) → left ≡ c ∷ rest → b ≡ go c (get_or rest 0 0) → b ≡ false → length (run_by go all) ≡ n
+    running_stops c rest b s is off =
+        let e = ap (λ xs. length (run_by go xs)) s ∙ ap (λ t. length (cond t (c ∷ run_by go rest) [])) (sym is ∙ off) in
+        omega (arith, e, r.run)
 
-    pub running_out : Placed text at → ahead_at text place ≡ [] → Ends text at (run_by go (ahead_at text at)) place n
-    running_out p e = ended p (ap (λ xs. length (run_by go xs)) e)
+    pub running_out : left ≡ [] → length (run_by go all) ≡ n
+    running_out e = let none = ap (λ xs. length (run_by go xs)) e in omega (arith, none, r.run)
+
+-- all of a run was taken
+pub run_ends : (go : ℕ → ℕ → Bool) (x y : Cursor) (n : ℕ) → y.text.now ≡ x.text.now → Running go (ahead_from x) (ahead_from y) n → length (run_by go (ahead_from x)) ≡ n
+    → Ends x (run_by go (ahead_from x)) y n
+run_ends go x y n same r is = front_ends x y n same r.ahead (run_by go (ahead_from x)) is (run_front go (ahead_from x))

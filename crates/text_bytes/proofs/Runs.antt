@@ -1,6 +1,6 @@
 -- Characters taken one after the other. Assumes nothing.
-use Rattle.std.proofs.Common.{◌≡◌, ℕ, ◌+◌, ◌≤◌, List, [], ◌∷◌, length, get_or, drop, sym, ap, ◌∙◌, arith, length-drop}
-use Rattle.std.proofs.lemmas.List.{drop-drop, drop_all, get_or-drop}
+use Rattle.std.proofs.Common.{◌≡◌, ℕ, ◌+◌, ◌≤◌, List, [], ◌∷◌, length, drop, sym, ap, ◌∙◌, arith, length-drop}
+use Rattle.std.proofs.lemmas.List.{drop-drop, drop_all}
 
 -- what is left of the characters after n of them
 module _ (all left : List ℕ) (n : ℕ) (is : left ≡ drop n all) where
@@ -9,6 +9,3 @@ module _ (all left : List ℕ) (n : ℕ) (is : left ≡ drop n all) where
 
   pub no_more : (count : ℕ) → n ≤ count → left ≡ [] → left ≡ drop count all
   no_more count h e = let l = length-drop n all in e ∙ sym (drop_all count all (omega (arith, ap length (sym is ∙ e))))
-
-  pub first_left : get_or left 0 0 ≡ get_or all n 0
-  first_left = ap (λ xs. get_or xs 0 0) is ∙ get_or-drop n all 0 0 ∙ ap (λ k. get_or all k 0) (omega arith)

@@ -1,5 +1,5 @@
 -- Characters in the bytes of a text. Assumes nothing.
-use Rattle.std.specs.Prelude.{◌≡◌, ℕ, ◌+◌, ◌<◌, ◌≤◌, Bool, true, false, ◌&&◌, List, [], ◌∷◌, length, drop, IfSome, Option, MatchOption, ◌==◌, slice_index, slice_index_or}
+use Rattle.std.specs.Prelude.{◌≡◌, ℕ, ◌+◌, ◌≤◌, Bool, true, false, ◌&&◌, List, [], ◌∷◌, length, drop, ◌==◌, slice_index, slice_index_or}
 use Rattle.std.proofs.Math.Utf8.{encodes, scalars}
 use Rattle.std.specs.Str.{IsCharBoundary, chars}
 
@@ -16,23 +16,6 @@ ahead_at text at = chars (drop at text)
 -- what is shown at each place: NUL past the end
 abbrev pub shows : List ℕ → ℕ → ℕ
 shows ahead n = slice_index ahead n
-
--- a character, and the place after it
-pub record Steps (text : List ℕ) (at c next : ℕ) : Type 0 where
-  pub first : ahead_at text at ≡ c ∷ ahead_at text next
-  pub boundary : IsCharBoundary text next
-
-abbrev pub FirstAt : List ℕ → ℕ → Option (ℕ × ℕ) → Type 0
-FirstAt text at r = MatchOption r (ahead_at text at ≡ []) (λ found. Steps text at found.0 found.1)
-
--- on any bytes the place after a character lies behind it, and not beyond the end
-abbrev pub Onward : List ℕ → ℕ → Option (ℕ × ℕ) → Type 0
-Onward text at r = IfSome r (λ found. (at < found.1) × (found.1 ≤ length text))
-
--- so many characters on, or at the end
-pub record Passes (text : List ℕ) (at n next : ℕ) : Type 0 where
-  pub ahead : ahead_at text next ≡ drop n (ahead_at text at)
-  pub boundary : IsCharBoundary text next
 
 -- the characters wanted are there, first of those ahead
 abbrev pub begins : List ℕ → List ℕ → Bool

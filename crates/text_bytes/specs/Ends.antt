@@ -1,19 +1,19 @@
 -- Runs of characters in the bytes of a text: where they end, and what of them a fetch takes. Assumes nothing.
 use Rattle.std.specs.Prelude.{◌≡◌, ℕ, ◌+◌, ◌-◌, ◌≤◌, true, List, length, take, drop}
 use Rattle.std.proofs.Math.Utf8.{encodes}
-use Rattle.std.specs.Str.{IsCharBoundary}
 use Rattle.utf8.specs.Room.{laid}
 use Rattle.runs.specs.declared.Fetched.{Fetched}
 use Rattle.runs.specs.Rooms.{beyond, part, refused, fetch_refusal}
-use Rattle.text_bytes.specs.Bytes.{ahead_at}
+use Rattle.text_bytes.specs.declared.cursor.Cursor.{Cursor}
+use Rattle.text_bytes.specs.Cursors.{ahead_from}
 
 -- a run that begins at a place: its end, and how many characters it has
-pub record Ends (text : List ℕ) (at : ℕ) (run : List ℕ) (end count : ℕ) : Type 0 where
+pub record Ends (x : Cursor) (run : List ℕ) (y : Cursor) (count : ℕ) : Type 0 where
+  pub text : y.text.now ≡ x.text.now
   pub number : count ≡ length run
-  pub order : at ≤ end
-  pub boundary : IsCharBoundary text end
-  pub ahead : ahead_at text end ≡ drop (length run) (ahead_at text at)
-  pub bytes : encodes run ≡ take (end - at) (drop at text)
+  pub order : x.place ≤ y.place
+  pub ahead : ahead_from y ≡ drop (length run) (ahead_from x)
+  pub bytes : encodes run ≡ take (y.place - x.place) (drop x.place x.text.now)
 
 -- as much of a run as fits is counted and appended to a room
 pub record AppendsRun (run room : List ℕ) (filled : ℕ) (r : Fetched) (left : List ℕ) : Type 0 where
@@ -23,8 +23,8 @@ pub record AppendsRun (run room : List ℕ) (filled : ℕ) (r : Fetched) (left :
   pub bytes : left ≡ laid room filled (encodes (part room filled run))
 
 -- the same of a run that begins at a place, and the place after what was appended
-pub record FetchesAt (text : List ℕ) (at : ℕ) (run room : List ℕ) (filled place : ℕ) (r : Fetched) (left : List ℕ) : Type 0 where
+pub record FetchesAt (x : Cursor) (run room : List ℕ) (filled : ℕ) (y : Cursor) (r : Fetched) (left : List ℕ) : Type 0 where
   pub appends : AppendsRun run room filled r left
-  pub boundary : IsCharBoundary text place
-  pub ahead : ahead_at text place ≡ drop (length (part room filled run)) (ahead_at text at)
-  pub unmoved : beyond room filled ≡ true → place ≡ at
+  pub text : y.text.now ≡ x.text.now
+  pub ahead : ahead_from y ≡ drop (length (part room filled run)) (ahead_from x)
+  pub unmoved : beyond room filled ≡ true → y ≡ x

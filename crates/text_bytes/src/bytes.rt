@@ -1,85 +1,153 @@
 //! Characters in the bytes of a text. An ASCII character is known by its byte alone.
 
-ghost use Rattle.std.specs.Prelude.{◌≡◌, ◌<◌, ◌≤◌, ◌&&◌, ◌||◌, length, Decides, ◌==◌, slice_index};
+ghost use Rattle.std.specs.Prelude.{◌≡◌, ◌<◌, ◌≤◌, ◌&&◌, ◌||◌, [], length, Decides, ◌==◌, slice_index, IfOk, MatchOption};
 ghost use Rattle.std.specs.Str.{IsCharBoundary};
 ghost use Rattle.char_traits.specs.Chars.{blank_or_breakz};
+ghost use Rattle.error.specs.Numbers.{outcome};
+ghost use Rattle.utf8.specs.Checking.{Checked};
+ghost use Rattle.input.specs.Calls.{none_left};
 ghost use Rattle.input.specs.Tests.{thrice, marker_in};
-ghost use Rattle.text_bytes.specs.Bytes.{Placed, ahead_at, shows, FirstAt, Onward, Passes, begins, Thrice};
+ghost use Rattle.text_bytes.specs.Bytes.{Placed, shows, begins, Thrice};
+ghost use Rattle.text_bytes.specs.Cursors.{ahead_from, Starts, At, FirstAt, Passes};
 
+use crate::cursor::Cursor;
 use char_traits::is_blank_or_breakz;
+use error::Refusal;
 use input::Marker;
-use utf8::decoder::{Decoded, decode};
+use std::str::from_utf8;
+use utf8::decoder::{IllFormed, decode};
+use utf8::text::check_text;
 
-/// The character at a place, and the place after it.
-pub fn first_at(text: &[u8], at: usize) -> Option<(char, usize)>
-    ensures first { Placed text.now at → FirstAt text.now at result }
-    ensures onward { Onward text.now at result }
-{
-    if at >= text.len() {
-        return None;
+impl<'a> Cursor<'a> {
+    /// The start of some bytes, if they are a text.
+    pub fn start(text: &'a [u8]) -> Result<Cursor<'a>, Refusal>
+        ensures checked { Checked text.now (outcome (λ _. []) result) }
+        ensures starts { IfOk result (Starts text.now) }
+    {
+        check_text(text)?;
+        Ok(Cursor { text, place: 0 })
     }
-    let byte = text[at];
-    if byte < 0x80 {
-        return Some((char::from(byte), at + 1));
-    }
-    match decode(text, at) {
-        Decoded::Char(c, width) => Some((c, at + width)),
-        Decoded::IllFormed => None,
-        Decoded::End => None,
-    }
-}
 
-/// The place so many characters on, or the end.
-pub fn past(text: &[u8], at: usize, count: usize) -> usize
-    ensures { Placed text.now at → Passes text.now at count result }
-{
-    let mut place = at;
-    for _ in 0..count {
-        match first_at(text, place) {
-            Some((_, next)) => place = next,
-            None => return place,
+    /// A place in any bytes, if these are well-formed and it is between two of their characters.
+    pub fn at(text: &'a [u8], place: usize) -> Option<Cursor<'a>>
+        ensures { MatchOption result (Placed text.now place → ⊥) (At text.now place) }
+    {
+        match from_utf8(text) {
+            Ok(_) if is_boundary(text, place) => Some(Cursor { text, place }),
+            _ => None,
         }
     }
-    place
-}
 
-/// The character so many places on, or NUL.
-pub fn nth(text: &[u8], at: usize, n: usize) -> char
-    ensures { Placed text.now at → result ≡ shows (ahead_at text.now at) n }
-{
-    match first_at(text, past(text, at, n)) {
-        Some((c, _)) => c,
-        None => '\0',
+    /// The end of the empty text.
+    #[tactic(auto, using(crate::proofs::Starting::starts_empty))]
+    pub fn empty() -> Cursor<'a>
+        ensures { Starts [] result }
+    {
+        Cursor {
+            text: &[],
+            place: 0,
+        }
     }
-}
 
-/// Whether the characters from a place on begin with those wanted.
-pub fn begins_with(text: &[u8], at: usize, wanted: &[char]) -> bool
-    ensures { Placed text.now at → result ≡ begins wanted.now (ahead_at text.now at) }
-{
-    let mut place = at;
-    for want in wanted {
-        match first_at(text, place) {
-            Some((c, next)) => {
-                if c != *want {
-                    return false;
-                }
-                place = next;
+    /// The character there, and the place after it.
+    pub fn first(&self) -> Option<(char, Cursor<'a>)>
+        ensures { FirstAt self.now result }
+    {
+        let Cursor { text, place } = *self;
+        if place == text.len() {
+            return None;
+        }
+        let byte = text[place];
+        if byte < 0x80 {
+            let next = place + 1;
+            return Some((char::from(byte), Cursor { text, place: next }));
+        }
+        match decode(text, place) {
+            Ok(Some((c, width))) => {
+                let next = place + width;
+                Some((c, Cursor { text, place: next }))
             }
-            None => return false,
+            Ok(None) => None,
+            Err(IllFormed) => None,
         }
     }
-    true
+
+    /// The place so many characters on, or the end.
+    pub fn past(&self, count: usize) -> Cursor<'a>
+        ensures { Passes self.now count result }
+    {
+        let mut at = *self;
+        for _ in 0..count {
+            match at.first() {
+                Some((_, next)) => at = next,
+                None => return at,
+            }
+        }
+        at
+    }
+
+    /// The character so many places on, or NUL.
+    pub fn nth(&self, n: usize) -> char
+        ensures { result ≡ shows (ahead_from self.now) n }
+    {
+        self.past(n).first().map_or('\0', |(c, _)| c)
+    }
+
+    /// Whether the characters from the place on begin with those wanted.
+    pub fn begins_with(&self, wanted: &[char]) -> bool
+        ensures { result ≡ begins wanted.now (ahead_from self.now) }
+    {
+        let mut at = *self;
+        for want in wanted {
+            match at.first() {
+                Some((c, next)) => {
+                    if c != *want {
+                        return false;
+                    }
+                    at = next;
+                }
+                None => return false,
+            }
+        }
+        true
+    }
+
+    /// Whether nothing is ahead.
+    #[tactic(auto, using(crate::proofs::Places::none_at))]
+    pub fn is_end(&self) -> bool
+        ensures { result ≡ none_left (ahead_from self.now) }
+    {
+        self.place == self.text.len()
+    }
+
+    /// The document marker there, if one is.
+    pub fn marker(&self) -> Option<Marker>
+        ensures { result ≡ marker_in (shows (ahead_from self.now)) }
+    {
+        if self.is_marker(b'-') {
+            Some(Marker::Start)
+        } else if self.is_marker(b'.') {
+            Some(Marker::End)
+        } else {
+            None
+        }
+    }
+
+    /// Whether an ASCII character stands three times, and then the marker ends.
+    fn is_marker(&self, byte: u8) -> bool
+        requires { (0 < byte) × (byte < 128) }
+        ensures { result ≡ (thrice byte (shows (ahead_from self.now)) && blank_or_breakz (shows (ahead_from self.now) 3)) }
+    {
+        is_thrice(self.text, self.place, byte) && ends_marker(self.text, self.place + 3)
+    }
 }
 
 /// Whether a byte stands three times from a place on.
 fn is_thrice(text: &[u8], at: usize, byte: u8) -> bool
+    requires { at ≤ length text.now }
     ensures { Decides result (Thrice text.now at byte) }
 {
-    text.len().saturating_sub(at) >= 3
-        && text[at] == byte
-        && text[at + 1] == byte
-        && text[at + 2] == byte
+    text.len() - at >= 3 && text[at] == byte && text[at + 1] == byte && text[at + 2] == byte
 }
 
 /// Whether the end is at a place, or a byte that ends a marker.
@@ -88,27 +156,6 @@ fn ends_marker(text: &[u8], at: usize) -> bool
     ensures { result ≡ (at == length text.now || blank_or_breakz (slice_index text.now at)) }
 {
     at == text.len() || is_blank_or_breakz(char::from(text[at]))
-}
-
-/// Whether an ASCII character stands three times at a place, and then the marker ends.
-fn is_marker(text: &[u8], at: usize, byte: u8) -> bool
-    requires { (0 < byte) × (byte < 128) }
-    ensures { Placed text.now at → result ≡ (thrice byte (shows (ahead_at text.now at)) && blank_or_breakz (shows (ahead_at text.now at) 3)) }
-{
-    is_thrice(text, at, byte) && ends_marker(text, at + 3)
-}
-
-/// The document marker at a place, if one is there.
-pub fn marker_at(text: &[u8], at: usize) -> Option<Marker>
-    ensures { Placed text.now at → result ≡ marker_in (shows (ahead_at text.now at)) }
-{
-    if is_marker(text, at, b'-') {
-        Some(Marker::Start)
-    } else if is_marker(text, at, b'.') {
-        Some(Marker::End)
-    } else {
-        None
-    }
 }
 
 /// Whether a place is between two characters of a text, or at its start or end.

@@ -1,42 +1,25 @@
 //! Where runs of characters end.
 
-ghost use Rattle.std.specs.Prelude.{◌≡◌, ◌-◌, ◌≤◌, length};
+ghost use Rattle.std.specs.Prelude.{◌≡◌, ◌-◌};
 ghost use Rattle.runs.specs.Runs.{goes, run_by, separates, blanks_of};
 ghost use Rattle.runs.specs.Scans.{flags, flags_of};
-ghost use Rattle.text_bytes.specs.Bytes.{Placed, ahead_at, shows};
+ghost use Rattle.text_bytes.specs.Bytes.{shows};
+ghost use Rattle.text_bytes.specs.Cursors.{ahead_from};
 ghost use Rattle.text_bytes.specs.Ends.{Ends};
 
-use crate::bytes::{first_at, nth};
+use crate::cursor::Cursor;
 use char_traits::class::Class;
 use runs::{Colon, SkipTabs, WhitespaceResult};
 
 /// Whether a run goes on with a character, by the place after it.
-fn goes_on<C: Class>(text: &[u8], c: char, next: usize, colon: Colon) -> bool
-    ensures { Placed text.now next → result ≡ goes C.Class.member colon c (shows (ahead_at text.now next) 0) }
+fn goes_on<C: Class>(c: char, next: Cursor<'_>, colon: Colon) -> bool
+    ensures { result ≡ goes C.Class.member colon c (shows (ahead_from next.entry) 0) }
 {
     match colon {
         Colon::Free => C::has(c),
         Colon::Stops => C::has(c) && c != ':',
-        Colon::Leads => C::has(c) && (c != ':' || C::has(nth(text, next, 0))),
+        Colon::Leads => C::has(c) && (c != ':' || C::has(next.nth(0))),
     }
-}
-
-/// Where the run from a place on ends, and how many characters it has.
-pub fn run_end<C: Class>(text: &[u8], at: usize, colon: Colon) -> (usize, usize)
-    ensures ends { Placed text.now at → Ends text.now at (run_by (goes C.Class.member colon) (ahead_at text.now at)) result.0 result.1 }
-    ensures onward { at ≤ result.0 }
-    ensures inside { at ≤ length text.now → result.0 ≤ length text.now }
-{
-    let mut place = at;
-    let mut count = 0;
-    while let Some((c, next)) = first_at(text, place) {
-        if !goes_on::<C>(text, c, next, colon) {
-            break;
-        }
-        place = next;
-        count += 1;
-    }
-    (place, count)
 }
 
 fn is_separator(byte: u8, tabs: SkipTabs) -> bool
@@ -48,28 +31,45 @@ fn is_separator(byte: u8, tabs: SkipTabs) -> bool
     }
 }
 
-/// Where the blanks from a place on end, and which kinds of them were there. Each is one byte.
-pub fn blanks_end(text: &[u8], at: usize, tabs: SkipTabs) -> (usize, WhitespaceResult)
-    ensures ends { Placed text.now at → Ends text.now at (blanks_of tabs (ahead_at text.now at)) result.0 (result.0 - at) }
-    ensures seen { Placed text.now at → flags result.1 ≡ flags_of (blanks_of tabs (ahead_at text.now at)) }
-    ensures onward { at ≤ result.0 }
-{
-    let mut place = at;
-    let mut found_tabs = false;
-    let mut has_valid_yaml_ws = false;
-    while place < text.len() && is_separator(text[place], tabs) {
-        if text[place] == b'\t' {
-            found_tabs = true;
-        } else {
-            has_valid_yaml_ws = true;
+impl<'a> Cursor<'a> {
+    /// Where the run from the place on ends, and how many characters it has.
+    pub fn run_end<C: Class>(&self, colon: Colon) -> (Cursor<'a>, usize)
+        ensures { Ends self.now (run_by (goes C.Class.member colon) (ahead_from self.now)) result.0 result.1 }
+    {
+        let mut end = *self;
+        let mut count = 0;
+        while let Some((c, next)) = end.first() {
+            if !goes_on::<C>(c, next, colon) {
+                break;
+            }
+            end = next;
+            count += 1;
         }
-        place += 1;
+        (end, count)
     }
-    (
-        place,
-        WhitespaceResult {
+
+    /// Where the blanks from the place on end, and which kinds of them were there. Each is one byte.
+    pub fn blanks_end(&self, tabs: SkipTabs) -> (Cursor<'a>, WhitespaceResult)
+        ensures ends { Ends self.now (blanks_of tabs (ahead_from self.now)) result.0 (result.0.place - self.now.place) }
+        ensures seen { flags result.1 ≡ flags_of (blanks_of tabs (ahead_from self.now)) }
+    {
+        let text = self.text;
+        let mut place = self.place;
+        let mut found_tabs = false;
+        let mut has_valid_yaml_ws = false;
+        // one pass finds the end and both flags
+        while place < text.len() && is_separator(text[place], tabs) {
+            if text[place] == b'\t' {
+                found_tabs = true;
+            } else {
+                has_valid_yaml_ws = true;
+            }
+            place += 1;
+        }
+        let seen = WhitespaceResult {
             found_tabs,
             has_valid_yaml_ws,
-        },
-    )
+        };
+        (Cursor { text, place }, seen)
+    }
 }

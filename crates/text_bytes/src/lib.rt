@@ -2,5 +2,6 @@
 #![tactic(auto)]
 
 pub mod bytes;
+pub mod cursor;
 pub mod ends;
 pub mod parts;

@@ -2,18 +2,11 @@
 
 ghost use Rattle.std.specs.Prelude.{◌≡◌, ◌%◌, drop};
 ghost use Rattle.utf8.specs.Table.{row1, row2, row3, row4};
-ghost use Rattle.utf8.specs.Decoding.{told, lead_width, Decodes, Reads, Returns};
+ghost use Rattle.utf8.specs.Decoding.{told, Leads, Decodes, Reads, Returns};
 
-/// What stands at the front of some bytes.
-#[derive(Clone, Copy, Debug, PartialEq)]
-pub enum Decoded {
-    /// A character, and how many bytes it has.
-    Char(char, usize),
-    /// Bytes of which no front is a character.
-    IllFormed,
-    /// No bytes.
-    End,
-}
+/// No front of some bytes is a character.
+#[derive(Clone, Copy, Debug, PartialEq, Eq)]
+pub struct IllFormed;
 
 fn is_row1(a: u8) -> bool
     ensures { result ≡ row1 a }
@@ -74,42 +67,41 @@ fn character(row: &[u8]) -> Option<char>
     }
 }
 
-/// How many bytes a character has, by the count of leading one bits of its first byte; 0 if no character begins so.
-fn width_of(first: u8) -> usize
-    ensures { result ≡ lead_width first }
+/// How many bytes a character has, by the count of leading one bits of its first byte, if one begins so.
+fn width_of(first: u8) -> Option<usize>
+    ensures { Leads first result }
 {
     match first.leading_ones() {
-        0 => 1,
-        2 => 2,
-        3 => 3,
-        4 => 4,
-        _ => 0,
+        0 => Some(1),
+        2 => Some(2),
+        3 => Some(3),
+        4 => Some(4),
+        _ => None,
     }
 }
 
-fn front(rest: &[u8]) -> Decoded
+fn front(rest: &[u8]) -> Result<Option<(char, usize)>, IllFormed>
     ensures { Decodes rest.now (told result) }
 {
-    if rest.len() == 0 {
-        return Decoded::End;
-    }
-    let width = width_of(rest[0]);
-    if rest.len() < width {
-        return Decoded::IllFormed;
-    }
-    match character(&rest[0..width]) {
-        Some(c) => Decoded::Char(c, width),
-        None => Decoded::IllFormed,
+    let [first, ..] = rest else {
+        return Ok(None);
+    };
+    match width_of(*first) {
+        Some(width) if width <= rest.len() => match character(&rest[..width]) {
+            Some(c) => Ok(Some((c, width))),
+            None => Err(IllFormed),
+        },
+        _ => Err(IllFormed),
     }
 }
 
-/// The character at a place of some bytes. From their end on there is none.
-pub fn decode(text: &[u8], place: usize) -> Decoded
+/// The character at a place of some bytes, and how many bytes it has. From their end on there is none.
+pub fn decode(text: &[u8], place: usize) -> Result<Option<(char, usize)>, IllFormed>
     ensures decodes { Decodes (drop place text.now) (told result) }
     ensures returns { Returns (drop place text.now) (told result) }
 {
     if place >= text.len() {
-        return Decoded::End;
+        return Ok(None);
     }
     front(&text[place..])
 }

@@ -4,7 +4,7 @@ ghost use Rattle.std.specs.Prelude.{[]};
 ghost use Rattle.error.specs.Numbers.{outcome};
 ghost use Rattle.utf8.specs.Checking.{Agree, Checked};
 
-use crate::decoder::{Decoded, decode};
+use crate::decoder::{IllFormed, decode};
 use error::{Place, Refusal, is_too_long};
 
 /// Whether some bytes are a text: not too many, and well-formed UTF-8.
@@ -18,9 +18,9 @@ pub fn check_text(bytes: &[u8]) -> Result<(), Refusal>
     let mut at = 0;
     loop {
         match decode(bytes, at) {
-            Decoded::Char(_, width) => at += width,
-            Decoded::IllFormed => return Err(Refusal::IllFormed(at as Place)),
-            Decoded::End => return Ok(()),
+            Ok(Some((_, width))) => at += width,
+            Ok(None) => return Ok(()),
+            Err(IllFormed) => return Err(Refusal::IllFormed(at as Place)),
         }
     }
 }

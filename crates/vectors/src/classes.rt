@@ -3,65 +3,18 @@
 use char_traits::*;
 use std::test::*;
 
-#[derive(Clone, Copy)]
-enum Predicate {
-    Z,
-    Break,
-    Breakz,
-    Blank,
-    BlankOrBreakz,
-    Digit,
-    Alpha,
-    Hex,
-    Flow,
-    Bom,
-    Printable,
-    YamlNonBreak,
-    YamlNonSpace,
-    Anchor,
-    Word,
-    Uri,
-    Tag,
-}
-
-fn holds(predicate: Predicate, c: char) -> bool {
-    match predicate {
-        Predicate::Z => is_z(c),
-        Predicate::Break => is_break(c),
-        Predicate::Breakz => is_breakz(c),
-        Predicate::Blank => is_blank(c),
-        Predicate::BlankOrBreakz => is_blank_or_breakz(c),
-        Predicate::Digit => is_digit(c),
-        Predicate::Alpha => is_alpha(c),
-        Predicate::Hex => is_hex(c),
-        Predicate::Flow => is_flow(c),
-        Predicate::Bom => is_bom(c),
-        Predicate::Printable => is_printable(c),
-        Predicate::YamlNonBreak => is_yaml_non_break(c),
-        Predicate::YamlNonSpace => is_yaml_non_space(c),
-        Predicate::Anchor => is_anchor_char(c),
-        Predicate::Word => is_word_char(c),
-        Predicate::Uri => is_uri_char(c),
-        Predicate::Tag => is_tag_char(c),
-    }
-}
-
 fn in_runs(runs: &[(u32, u32)], code: u32) -> bool {
-    for (low, high) in runs {
-        if *low <= code && code <= *high {
-            return true;
-        }
-    }
-    false
+    runs.iter()
+        .any(|(low, high)| (*low..=*high).contains(&code))
 }
 
 // Over all characters, and so at each border of each run.
-fn has_runs(predicate: Predicate, runs: &[(u32, u32)]) -> bool {
-    for code in 0..0x110000u32 {
-        if let Some(c) = char::from_u32(code) {
-            if holds(predicate, c) != in_runs(runs, code) {
-                return false;
-            }
+fn has_runs<F: Fn(char) -> bool + Copy>(class: F, runs: &[(u32, u32)]) -> bool
+    requires { F.IsAlwaysCallable class }
+{
+    for c in '\0'..=char::MAX {
+        if class(c) != in_runs(runs, c as u32) {
+            return false;
         }
     }
     true
@@ -69,24 +22,19 @@ fn has_runs(predicate: Predicate, runs: &[(u32, u32)]) -> bool {
 
 #[test]
 fn breaks_and_blanks(rt: HostRuntime) -> Result<(), Fail> {
-    assert!(rt; has_runs(Predicate::Z, &[(0x00, 0x00)]));
-    assert!(rt; has_runs(Predicate::Break, &[(0x0A, 0x0A), (0x0D, 0x0D)]));
+    assert!(rt; has_runs(is_z, &[(0x00, 0x00)]));
+    assert!(rt; has_runs(is_break, &[(0x0A, 0x0A), (0x0D, 0x0D)]));
+    assert!(rt; has_runs(is_breakz, &[(0x00, 0x00), (0x0A, 0x0A), (0x0D, 0x0D)]));
+    assert!(rt; has_runs(is_blank, &[(0x09, 0x09), (0x20, 0x20)]));
     assert!(rt;
         has_runs(
-            Predicate::Breakz,
-            &[(0x00, 0x00), (0x0A, 0x0A), (0x0D, 0x0D)]
-        )
-    );
-    assert!(rt; has_runs(Predicate::Blank, &[(0x09, 0x09), (0x20, 0x20)]));
-    assert!(rt;
-        has_runs(
-            Predicate::BlankOrBreakz,
+            is_blank_or_breakz,
             &[(0x00, 0x00), (0x09, 0x0A), (0x0D, 0x0D), (0x20, 0x20)]
         )
     );
     assert!(rt;
         has_runs(
-            Predicate::Flow,
+            is_flow,
             &[
                 (0x2C, 0x2C),
                 (0x5B, 0x5B),
@@ -101,10 +49,10 @@ fn breaks_and_blanks(rt: HostRuntime) -> Result<(), Fail> {
 
 #[test]
 fn words(rt: HostRuntime) -> Result<(), Fail> {
-    assert!(rt; has_runs(Predicate::Digit, &[(0x30, 0x39)]));
+    assert!(rt; has_runs(is_digit, &[(0x30, 0x39)]));
     assert!(rt;
         has_runs(
-            Predicate::Alpha,
+            is_alpha,
             &[
                 (0x2D, 0x2D),
                 (0x30, 0x39),
@@ -114,16 +62,16 @@ fn words(rt: HostRuntime) -> Result<(), Fail> {
             ]
         )
     );
-    assert!(rt; has_runs(Predicate::Hex, &[(0x30, 0x39), (0x41, 0x46), (0x61, 0x66)]));
+    assert!(rt; has_runs(is_hex, &[(0x30, 0x39), (0x41, 0x46), (0x61, 0x66)]));
     assert!(rt;
         has_runs(
-            Predicate::Word,
+            is_word_char,
             &[(0x2D, 0x2D), (0x30, 0x39), (0x41, 0x5A), (0x61, 0x7A)]
         )
     );
     assert!(rt;
         has_runs(
-            Predicate::Uri,
+            is_uri_char,
             &[
                 (0x21, 0x21),
                 (0x23, 0x3B),
@@ -138,7 +86,7 @@ fn words(rt: HostRuntime) -> Result<(), Fail> {
     );
     assert!(rt;
         has_runs(
-            Predicate::Tag,
+            is_tag_char,
             &[
                 (0x23, 0x2B),
                 (0x2D, 0x3B),
@@ -155,10 +103,10 @@ fn words(rt: HostRuntime) -> Result<(), Fail> {
 
 #[test]
 fn printables(rt: HostRuntime) -> Result<(), Fail> {
-    assert!(rt; has_runs(Predicate::Bom, &[(0xFEFF, 0xFEFF)]));
+    assert!(rt; has_runs(is_bom, &[(0xFEFF, 0xFEFF)]));
     assert!(rt;
         has_runs(
-            Predicate::Printable,
+            is_printable,
             &[
                 (0x09, 0x0A),
                 (0x0D, 0x0D),
@@ -172,7 +120,7 @@ fn printables(rt: HostRuntime) -> Result<(), Fail> {
     );
     assert!(rt;
         has_runs(
-            Predicate::YamlNonBreak,
+            is_yaml_non_break,
             &[
                 (0x09, 0x09),
                 (0x20, 0x7E),
@@ -186,7 +134,7 @@ fn printables(rt: HostRuntime) -> Result<(), Fail> {
     );
     assert!(rt;
         has_runs(
-            Predicate::YamlNonSpace,
+            is_yaml_non_space,
             &[
                 (0x21, 0x7E),
                 (0x85, 0x85),
@@ -199,7 +147,7 @@ fn printables(rt: HostRuntime) -> Result<(), Fail> {
     );
     assert!(rt;
         has_runs(
-            Predicate::Anchor,
+            is_anchor_char,
             &[
                 (0x21, 0x2B),
                 (0x2D, 0x5A),

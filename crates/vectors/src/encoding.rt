@@ -2,7 +2,7 @@
 
 use error::Refusal;
 use std::test::*;
-use utf8::decoder::{Decoded, decode};
+use utf8::decoder::{IllFormed, decode};
 use utf8::encoder::append;
 use utf8::text::check_text;
 
@@ -56,28 +56,26 @@ const ROWS: [Row; 8] = [
     },
 ];
 
-// How many bytes the character has that begins so; 0 if none does.
-fn width_told(first: u8, second: u8) -> usize {
-    if first < 0x80 {
-        return 1;
-    }
-    for row in &ROWS {
-        if row.first.0 <= first
-            && first <= row.first.1
-            && row.second.0 <= second
-            && second <= row.second.1
-        {
-            return row.width;
-        }
-    }
-    0
+fn within(ends: (u8, u8), byte: u8) -> bool {
+    ends.0 <= byte && byte <= ends.1
 }
 
-fn width_decoded(bytes: &[u8]) -> usize {
+// How many bytes the character has that begins so.
+fn width_told(first: u8, second: u8) -> Option<usize> {
+    if first < 0x80 {
+        return Some(1);
+    }
+    ROWS.iter()
+        .find(|row| within(row.first, first) && within(row.second, second))
+        .map(|row| row.width)
+}
+
+// Whether a character of this width stands at the front, or none does.
+fn has_width(bytes: &[u8], told: Option<usize>) -> bool {
     match decode(bytes, 0) {
-        Decoded::Char(_, width) => width,
-        Decoded::IllFormed => 0,
-        Decoded::End => 9,
+        Ok(Some((_, width))) => told == Some(width),
+        Ok(None) => false,
+        Err(IllFormed) => told.is_none(),
     }
 }
 
@@ -86,40 +84,25 @@ fn first_and_second_bytes(rt: HostRuntime) -> Result<(), Fail> {
     for first in 0..=255u8 {
         for second in 0..=255u8 {
             let told = width_told(first, second);
-            assert_eq!(rt; width_decoded(&[first, second, 0x80, 0xBF]), told);
+            let up_to_2 = told.filter(|width| *width <= 2);
+            let up_to_3 = told.filter(|width| *width <= 3);
+            assert!(rt; has_width(&[first, second, 0x80, 0xBF], told));
             // a later byte one off, or one too few
-            assert_eq!(rt;
-                width_decoded(&[first, second, 0x7F, 0xBF]),
-                if told > 2 { 0 } else { told }
-            );
-            assert_eq!(rt;
-                width_decoded(&[first, second, 0xC0, 0x80]),
-                if told > 2 { 0 } else { told }
-            );
-            assert_eq!(rt;
-                width_decoded(&[first, second, 0xBF, 0x7F]),
-                if told > 3 { 0 } else { told }
-            );
-            assert_eq!(rt;
-                width_decoded(&[first, second, 0x80, 0xC0]),
-                if told > 3 { 0 } else { told }
-            );
-            assert_eq!(rt;
-                width_decoded(&[first, second, 0x80]),
-                if told > 3 { 0 } else { told }
-            );
-            assert_eq!(rt;
-                width_decoded(&[first, second]),
-                if told > 2 { 0 } else { told }
-            );
+            assert!(rt; has_width(&[first, second, 0x7F, 0xBF], up_to_2));
+            assert!(rt; has_width(&[first, second, 0xC0, 0x80], up_to_2));
+            assert!(rt; has_width(&[first, second, 0xBF, 0x7F], up_to_3));
+            assert!(rt; has_width(&[first, second, 0x80, 0xC0], up_to_3));
+            assert!(rt; has_width(&[first, second, 0x80], up_to_3));
+            assert!(rt; has_width(&[first, second], up_to_2));
         }
-        assert_eq!(rt; width_decoded(&[first]), if first < 0x80 { 1 } else { 0 });
+        let alone = if first < 0x80 { Some(1) } else { None };
+        assert!(rt; has_width(&[first], alone));
     }
     Ok(())
 }
 
 fn decodes(bytes: &[u8], c: char) -> bool {
-    decode(bytes, 0) == Decoded::Char(c, bytes.len())
+    decode(bytes, 0) == Ok(Some((c, bytes.len())))
 }
 
 #[test]
@@ -148,30 +131,25 @@ fn both_ends_of_each_row(rt: HostRuntime) -> Result<(), Fail> {
 #[test]
 fn places(rt: HostRuntime) -> Result<(), Fail> {
     let bytes = "aé€".as_bytes();
-    assert_eq!(rt; decode(bytes, 0), Decoded::Char('a', 1));
-    assert_eq!(rt; decode(bytes, 1), Decoded::Char('é', 2));
-    assert_eq!(rt; decode(bytes, 2), Decoded::IllFormed);
-    assert_eq!(rt; decode(bytes, 3), Decoded::Char('€', 3));
-    assert_eq!(rt; decode(bytes, 6), Decoded::End);
-    assert_eq!(rt; decode(bytes, 7), Decoded::End);
-    assert_eq!(rt; decode(bytes, usize::MAX), Decoded::End);
+    assert_eq!(rt; decode(bytes, 0), Ok(Some(('a', 1))));
+    assert_eq!(rt; decode(bytes, 1), Ok(Some(('é', 2))));
+    assert_eq!(rt; decode(bytes, 2), Err(IllFormed));
+    assert_eq!(rt; decode(bytes, 3), Ok(Some(('€', 3))));
+    assert_eq!(rt; decode(bytes, 6), Ok(None));
+    assert_eq!(rt; decode(bytes, 7), Ok(None));
+    assert_eq!(rt; decode(bytes, usize::MAX), Ok(None));
     Ok(())
 }
 
 // Every character into a room and out of it again, with no byte before or after it touched.
 #[test]
 fn there_and_back(rt: HostRuntime) -> Result<(), Fail> {
-    for code in 0..0x110000u32 {
-        if let Some(c) = char::from_u32(code) {
-            let mut room = [0xEEu8; 6];
-            let filled = append(c, &mut room, 1)?;
-            assert_eq!(rt;
-                decode(&room, 1),
-                Decoded::Char(c, filled.saturating_sub(1))
-            );
-            assert!(rt; room[0] == 0xEE && room[5] == 0xEE);
-            assert_eq!(rt; decode(&room, filled), Decoded::IllFormed);
-        }
+    for c in '\0'..=char::MAX {
+        let mut room = [0xEEu8; 6];
+        let filled = append(c, &mut room, 1)?;
+        assert_eq!(rt; decode(&room, 1), Ok(Some((c, filled.saturating_sub(1)))));
+        assert!(rt; room[0] == 0xEE && room[5] == 0xEE);
+        assert_eq!(rt; decode(&room, filled), Err(IllFormed));
     }
     Ok(())
 }

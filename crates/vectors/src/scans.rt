@@ -3,47 +3,37 @@
 use buffered::buffered::BufferedInput;
 use error::Refusal;
 use input::Input;
+use reading::call::{Answer, Call, FetchCall, ScanCall, Step};
 use runs::SkipTabs;
 use scan::Scan;
-use scan_sides::card_and_cable;
-use scanning::call::{Answer, Call, FetchCall, ScanCall, Step};
+use sides::card_and_cable;
 use source::codes::{Codes, CodesEnding};
 use source::text::TextChars;
 use std::test::*;
 use str_input::text::StrInput;
 
-fn number_of(refusal: Option<Refusal>) -> u8 {
-    match refusal {
-        Some(refusal) => refusal.number(),
-        None => 0,
-    }
-}
-
-// How many are skipped to the end of the line, whether a tab and a space were, and the number of a refusal.
-fn to_eol<I: Scan>(input: &mut I, tabs: SkipTabs) -> (usize, bool, bool, u8) {
+// How many are skipped to the end of the line, and whether a tab and a space were.
+fn to_eol<I: Scan>(input: &mut I, tabs: SkipTabs) -> (usize, Result<(bool, bool), Refusal>) {
     let (count, result) = input.skip_ws_to_eol(tabs);
-    match result {
-        Ok(seen) => (count, seen.found_tabs, seen.has_valid_yaml_ws, 0),
-        Err(refusal) => (count, false, false, refusal.number()),
-    }
+    let seen = result.map(|seen| (seen.found_tabs, seen.has_valid_yaml_ws));
+    (count, seen)
 }
 
 #[test]
 fn to_the_end_of_a_line(rt: HostRuntime) -> Result<(), Fail> {
     let mut card = StrInput::new();
     card.load(b"  \t# hot\n")?;
-    let (count, tab, space, refusal) = to_eol(&mut card, SkipTabs::Yes);
-    assert!(rt; count == 8 && tab && space && refusal == 0);
+    assert_eq!(rt; to_eol(&mut card, SkipTabs::Yes), (8, Ok((true, true))));
     let mut text = TextChars::new();
     text.load(b"  \t# hot\n")?;
     let mut cable = BufferedInput::new(text);
-    let (count, tab, space, refusal) = to_eol(&mut cable, SkipTabs::No);
-    assert!(rt; count == 2 && !tab && space && refusal == 0);
-    let (count, tab, space, refusal) = to_eol(&mut cable, SkipTabs::Yes);
-    assert!(rt; count == 6 && tab && !space && refusal == 0);
+    assert_eq!(rt; to_eol(&mut cable, SkipTabs::No), (2, Ok((false, true))));
+    assert_eq!(rt; to_eol(&mut cable, SkipTabs::Yes), (6, Ok((true, false))));
     card.load(b"#x")?;
-    let (count, _, _, refusal) = to_eol(&mut card, SkipTabs::Yes);
-    assert!(rt; count == 0 && refusal == 5);
+    assert_eq!(rt;
+        to_eol(&mut card, SkipTabs::Yes),
+        (0, Err(Refusal::CommentNotSeparated))
+    );
     Ok(())
 }
 
@@ -68,14 +58,14 @@ fn a_room_that_is_too_small(rt: HostRuntime) -> Result<(), Fail> {
     card.load("abé".as_bytes())?;
     let fetched = card.fetch_while_is_yaml_non_space(&mut room, 0);
     assert!(rt; fetched.count == 2 && fetched.filled == 2);
-    assert_eq!(rt; number_of(fetched.refusal), 7);
+    assert_eq!(rt; fetched.refusal, Some(Refusal::RoomFull));
     assert!(rt; room[0] == b'a' && room[1] == b'b' && room[2] == 0xEE);
     let mut text = TextChars::new();
     text.load("abé".as_bytes())?;
     let mut cable = BufferedInput::new(text);
     let fetched = cable.fetch_while_is_yaml_non_space(&mut room, 4);
     assert!(rt; fetched.count == 0 && fetched.filled == 4);
-    assert_eq!(rt; number_of(fetched.refusal), 6);
+    assert_eq!(rt; fetched.refusal, Some(Refusal::BeyondRoom));
     assert_eq!(rt; cable.buflen(), 0);
     Ok(())
 }
@@ -96,10 +86,17 @@ fn chunks_on_a_ring(rt: HostRuntime) -> Result<(), Fail> {
     Ok(())
 }
 
-fn fetched_of(step: &Step) -> (usize, u8) {
+fn fetched_of(step: &Step) -> Option<(usize, Option<Refusal>)> {
     match step.answer {
-        Answer::Fetch(fetched) => (fetched.count, number_of(fetched.refusal)),
-        _ => (99, 99),
+        Answer::Fetch(fetched) => Some((fetched.count, fetched.refusal)),
+        _ => None,
+    }
+}
+
+fn room_of(step: &Step) -> &[u8] {
+    match &step.room {
+        Some(room) => room.as_slice(),
+        None => &[],
     }
 }
 
@@ -112,9 +109,10 @@ fn rooms_in_lists(rt: HostRuntime) -> Result<(), Fail> {
     let mut one = [Step::with_room(call, vec![in heap; 0xEE; 3]?, 0)];
     let mut other = [Step::with_room(call, vec![in heap; 0xEE; 3]?, 0)];
     card_and_cable("abé".as_bytes(), source, &mut one, &mut other)?;
-    assert_eq!(rt; fetched_of(&one[0]), (2, 7));
-    assert_eq!(rt; fetched_of(&other[0]), (2, 7));
-    assert!(rt; one[0].room.as_slice() == b"ab\xEE".as_slice());
-    assert!(rt; other[0].room.as_slice() == b"ab\xEE".as_slice());
+    let told = Some((2, Some(Refusal::RoomFull)));
+    assert_eq!(rt; fetched_of(&one[0]), told);
+    assert_eq!(rt; fetched_of(&other[0]), told);
+    assert!(rt; room_of(&one[0]) == b"ab\xEE".as_slice());
+    assert!(rt; room_of(&other[0]) == b"ab\xEE".as_slice());
     Ok(())
 }

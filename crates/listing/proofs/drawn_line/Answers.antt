@@ -1,6 +1,5 @@
-use Rattle.std.proofs.Common.{◌<◌, map, length, string_bytes, ap, ◌∙◌, arith}
-use lib.Utf8.{encodes}
-use Rattle.std.proofs.lemmas.List.{take_all, get_or_read}
+use Rattle.std.proofs.Common.{◌<◌, length, string_bytes, ap, ◌∙◌, arith}
+use Rattle.std.proofs.lemmas.List.{get_or_read}
 use Rattle.listing.specs.Lines.{drawn}
 use Rattle.listing.proofs.Steps.{drawn_more}
 use Rattle.listing.proofs.drawn_line.Goals as goal
@@ -12,6 +11,3 @@ loop-c-preserved c =
     let item = get_or_read c.args.line.now i c.c-item.result h c.c-item.is 0 in
     drawn_more c.args.line.now (string_bytes c.loop-c.s) (string_bytes c.push.new.self) i c.drawn_char.result h
     (c.drawn_char.ensures ∙ ap drawn item) c.in_ok-push.ensures.bytes c.loop-c.invariant
-
-pub returns : goal.returns
-returns c = c.loop-c.invariant ∙ ap (λ xs. encodes (map drawn xs)) (take_all c.loop-c.c-index c.args.line.now (omega arith))

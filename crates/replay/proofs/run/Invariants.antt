@@ -1,5 +1,11 @@
-use Rattle.std.proofs.Common.{◌-◌, length}
+use Rattle.std.proofs.Common.{ℕ, ◌+◌, List, length, Some, None, Option}
+use Rattle.std.specs.Borrow.{Bor}
 use Rattle.replay.proofs.run.Given as goal
 
-abbrev pub decreases-loop-at : goal.decreases-loop-at
-decreases-loop-at l = length l.text - l.at
+-- a line that is asked for is yet to be answered
+abbrev pub asked_yet : Option (Bor (List ℕ)) → ℕ
+asked_yet None = 0
+asked_yet (Some line) = 1
+
+abbrev pub decreases-loop-asked : goal.decreases-loop-asked
+decreases-loop-asked l = length l.lines.rest.now + asked_yet l.asked

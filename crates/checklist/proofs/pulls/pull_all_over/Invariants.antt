@@ -5,4 +5,4 @@ use Rattle.checklist.proofs.pulls.pull_all_over.Given as goal
 
 abbrev pub invariant-loop-place : goal.invariant-loop-place
 invariant-loop-place l =
-    (scalars l.codes ≡ true → length l.codes ≤ code_limit → l.pulls.told ≡ l.pulls.made) × (l.every ≤ 1 → l.pulls.made ≡ l.place)
+    (scalars l.codes ≡ true → length l.codes ≤ code_limit → l.pulls.told ≡ l.pulls.made) × (l.every ≤ 1 → (l.pulls.made ≡ l.place) × (l.place ≤ length l.codes))

@@ -1,6 +1,9 @@
-use Rattle.std.proofs.Common.{sym, rules}
+use Rattle.std.proofs.Common.{rules, tests}
 use Rattle.checklist.specs.Lines.{after}
+use Rattle.checklist.proofs.Setpoints.{first_found}
 use Rattle.checklist.proofs.scans.setpoint_end.Goals as goal
 
-pub returns-then-is_ascii_digit : goal.returns-then-is_ascii_digit
-returns-then-is_ascii_digit c = after c.loop-from.from (search rules) (search rules) (sym c.if-is_ascii_digit.ensures.value) c.digits_end.ensures.ends
+pub returns-in-Some : goal.returns-in-Some
+returns-in-Some c =
+    let found = first_found _ _ c.args.bytes.now c.windows.result c.windows.ensures.rest c.windows.ensures.size c.windows.ensures.runs (λ x b q k. search (rules, tests)) c.in-Some.place c.in-Some.ensures.runs in
+    after c.in-Some.place found.0 found.1 c.digits_end.ensures.ends

@@ -1,8 +1,8 @@
-use Rattle.std.proofs.Common.{◌-◌, ◌≤◌, length}
+use Rattle.std.proofs.Common.{◌≡◌, ℕ, length, drop}
 use Rattle.player.proofs.list.serve.Given as goal
 
-abbrev pub invariant-loop-at : goal.invariant-loop-at
-invariant-loop-at g l = l.from ≤ l.at
+abbrev pub invariant-loop-line : goal.invariant-loop-line
+invariant-loop-line g l = (n : ℕ) × (l.lines.rest.now ≡ drop n l.initial.lines.rest.now)
 
-abbrev pub decreases-loop-at : goal.decreases-loop-at
-decreases-loop-at g l = length l.text - l.at
+abbrev pub decreases-loop-line : goal.decreases-loop-line
+decreases-loop-line g l = length l.lines.rest.now

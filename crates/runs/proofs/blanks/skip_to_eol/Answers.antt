@@ -1,23 +1,11 @@
 use Rattle.std.proofs.Common.{sym, ◌∙◌, arith}
-use Rattle.std.proofs.lemmas.Bool.{eq-eqb, ne_eqb}
+use Rattle.std.proofs.lemmas.Bool.{eq-eqb}
 use Rattle.char_traits.specs.Chars.{not_breakz}
 use Rattle.runs.specs.declared.Colon.TheVariants.{Free}
 use Rattle.runs.specs.Runs.{goes, separates}
 use Rattle.runs.proofs.Asking.{run_short, ahead_short, skims_whole}
-use Rattle.runs.proofs.Eol.{no_comment, bare_comment, comment_after}
+use Rattle.runs.proofs.Eol.{comment_after}
 use Rattle.runs.proofs.blanks.skip_to_eol.Goals as goal
-
-pub returns-then-peek_nth-ne35 : goal.returns-then-peek_nth-ne35
-returns-then-peek_nth-ne35 g c =
-    let u = c.skip_blanks-blanks.new.input in
-    let shown = c.peek_nth.ensures ∙ g.I.Input.faithful u 0 c.skip_blanks-blanks.ensures.looked in
-    no_comment _ _ _ _ _ _ c.skip_blanks-blanks.ensures.skips (ne_eqb _ 35 (λ e. c.if-peek_nth-ne35.true (shown ∙ e)))
-
-pub returns-then-blanks-eq0 : goal.returns-then-blanks-eq0
-returns-then-blanks-eq0 g c =
-    let u = c.skip_blanks-blanks.new.input in
-    let shown = c.peek_nth.ensures ∙ g.I.Input.faithful u 0 c.skip_blanks-blanks.ensures.looked in
-    bare_comment _ _ _ _ _ _ c.skip_blanks-blanks.ensures.skips (eq-eqb _ 35 (sym shown ∙ c.if-peek_nth-ne35.false)) c.if-blanks-eq0.true
 
 pub overflow_add-result : goal.overflow_add-result
 overflow_add-result g c =

@@ -1,11 +1,8 @@
 use Rattle.std.proofs.Common.{true, arith}
 use Rattle.runs.specs.declared.Colon.TheVariants.{Free}
 use Rattle.runs.specs.Runs.{goes, run_of}
-use Rattle.runs.proofs.Asking.{fetches_whole, fetches_after, fetches_scan, fetch_beyond}
+use Rattle.runs.proofs.Asking.{fetches_whole, fetches_after, fetches_scan}
 use Rattle.runs.proofs.calls.fetch_while.Goals as goal
-
-pub returns-then-filled-room : goal.returns-then-filled-room
-returns-then-filled-room g c = fetch_beyond _ _ _ _ _ _ _ _ (g.I.Input.sound c.args.input.now) (omega arith) c.new.ensures
 
 pub returns : goal.returns
 returns g c =

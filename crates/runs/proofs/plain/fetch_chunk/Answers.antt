@@ -1,19 +1,6 @@
 use Rattle.std.proofs.Common.{◌<◌, arith}
-use Rattle.runs.proofs.Chunks.{sighted_fetch, fetches_chunk, steps_fetch, fetches_chunk_none, steps_fetch_none, chunk_beyond, steps_beyond}
+use Rattle.runs.proofs.Chunks.{sighted_fetch, fetches_chunk, steps_fetch}
 use Rattle.runs.proofs.plain.fetch_chunk.Goals as goal
-
-pub returns-then-filled-room : goal.returns-then-filled-room
-returns-then-filled-room g c =
-    let sound = g.I.Input.sound c.args.input.now in
-    record { chunk = chunk_beyond _ _ _ _ _ _ _ sound (omega arith) c.new-refused.ensures _; steps = steps_beyond _ _ _ _ _ _ _ sound (omega arith) c.new-refused.ensures }
-
-pub returns-then-count-eq0 : goal.returns-then-count-eq0
-returns-then-count-eq0 g c =
-    let sound = g.I.Input.sound c.args.input.now in
-    record {
-      chunk = fetches_chunk_none _ _ _ _ sound (omega arith) _ _ _ (omega arith) c.new.ensures;
-      steps = steps_fetch_none _ _ _ _ sound (omega arith) _ _ _ (omega arith) c.new.ensures;
-    }
 
 pub returns : goal.returns
 returns g c =

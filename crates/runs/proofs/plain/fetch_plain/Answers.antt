@@ -2,11 +2,8 @@ use Rattle.std.proofs.Common.{true, arith}
 use Rattle.char_traits.specs.Chars.{plain_safe}
 use Rattle.runs.specs.declared.Colon.TheVariants.{Leads}
 use Rattle.runs.specs.Runs.{goes, plain_run}
-use Rattle.runs.proofs.Asking.{fetches_whole, fetches_after, fetch_beyond}
+use Rattle.runs.proofs.Asking.{fetches_whole, fetches_after}
 use Rattle.runs.proofs.plain.fetch_plain.Goals as goal
-
-pub returns-then-filled-room : goal.returns-then-filled-room
-returns-then-filled-room g c = fetch_beyond _ _ _ _ _ _ _ _ (g.I.Input.sound c.args.input.now) (omega arith) c.new.ensures
 
 pub returns : goal.returns
 returns g c =

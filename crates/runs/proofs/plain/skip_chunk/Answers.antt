@@ -1,11 +1,6 @@
 use Rattle.std.proofs.Common.{◌<◌, refl, arith}
-use Rattle.runs.proofs.Chunks.{sighted_skip, skips_chunk, steps_chunk, skips_none, steps_none}
+use Rattle.runs.proofs.Chunks.{sighted_skip, skips_chunk, steps_chunk}
 use Rattle.runs.proofs.plain.skip_chunk.Goals as goal
-
-pub returns-then-count-eq0 : goal.returns-then-count-eq0
-returns-then-count-eq0 g c =
-    let sound = g.I.Input.sound c.args.input.now in
-    record { chunk = skips_none _ _ _ _ sound (omega arith); steps = steps_none _ _ _ _ sound (omega arith) }
 
 pub returns : goal.returns
 returns g c =

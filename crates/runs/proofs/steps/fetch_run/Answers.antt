@@ -1,10 +1,7 @@
 use Rattle.std.proofs.Common.{sym, arith}
 use Rattle.runs.proofs.Laying.{appended, full}
-use Rattle.runs.proofs.Fetching.{fetch_none, fetch_more, fetch_ended, fetch_full, fetch_counted, answered}
+use Rattle.runs.proofs.Fetching.{fetch_more, fetch_ended, fetch_full, answered}
 use Rattle.runs.proofs.steps.fetch_run.Goals as goal
-
-pub loop-count-init : goal.loop-count-init
-loop-count-init g c = fetch_none _ _ _ _ _ _ (g.I.Input.sound c.args.input.now) c.requires.1
 
 pub returns-in_default : goal.returns-in_default
 returns-in_default g c =
@@ -21,6 +18,3 @@ pub loop-count-preserved : goal.loop-count-preserved
 loop-count-preserved g c =
     fetch_more _ _ _ _ _ _ _ _ _ _ _ _ c.loop-count.invariant c.next_of_run.ensures c.in-Some.c (sym c.in-Some.is) (omega arith) c.in-Ok.next _
     (appended _ _ _ _ _ c.loop-count.invariant.inside c.in-Ok.ensures) _ c.skip.ensures
-
-pub returns : goal.returns
-returns g c = answered _ _ _ _ _ _ _ _ _ _ _ _ c.new-2.ensures (fetch_counted _ _ _ _ _ _ _ _ _ _ c.loop-count.invariant c.requires.1 (omega arith))

@@ -1,4 +1,3 @@
-use Rattle.std.proofs.Common.{◌-◌}
 use Rattle.runs.specs.Runs.{goes}
 use Rattle.runs.proofs.Fetching.{Fetching}
 use Rattle.runs.proofs.steps.fetch_run.Given as goal
@@ -7,6 +6,3 @@ abbrev pub invariant-loop-count : goal.invariant-loop-count
 invariant-loop-count g l =
     Fetching g.I.Input.prompt (goes g.C.Class.member l.colon) l.most l.initial.room l.room l.filled l.end l.count (g.I.Input.view l.initial.input)
     (g.I.Input.view l.input)
-
-abbrev pub decreases-loop-count : goal.decreases-loop-count
-decreases-loop-count g l = l.most - l.count

@@ -1,4 +1,3 @@
-use Rattle.std.proofs.Common.{◌-◌}
 use Rattle.runs.specs.Runs.{goes}
 use Rattle.runs.proofs.Running.{Running}
 use Rattle.runs.proofs.steps.skip_run.Given as goal
@@ -6,6 +5,3 @@ use Rattle.runs.proofs.steps.skip_run.Given as goal
 abbrev pub invariant-loop-taken : goal.invariant-loop-taken
 invariant-loop-taken g l =
     Running g.I.Input.prompt (goes g.C.Class.member l.colon) l.most l.taken (g.I.Input.view l.initial.input) (g.I.Input.view l.input)
-
-abbrev pub decreases-loop-taken : goal.decreases-loop-taken
-decreases-loop-taken g l = l.most - l.taken

@@ -4,10 +4,7 @@ use Rattle.buffered.specs.Buffered.{seen}
 use Rattle.input.proofs.Skipping.{Skipping}
 use Rattle.buffered.proofs.buffered_input.BufferedInputInput.skip_n.Given as goal
 
-abbrev pub invariant-loop-left : goal.invariant-loop-left
-invariant-loop-left g l =
-    Skipping true l.count l.left (seen g.S.Source.ahead l.initial.self) (seen g.S.Source.ahead l.self)
+abbrev pub invariant-loop : goal.invariant-loop
+invariant-loop g l =
+    Skipping true l.counter (seen g.S.Source.ahead l.initial.self) (seen g.S.Source.ahead l.self)
     × Feeds g.S.Source.kept g.S.Source.ended l.initial.self.store l.self.store
-
-abbrev pub decreases-loop-left : goal.decreases-loop-left
-decreases-loop-left g l = l.left

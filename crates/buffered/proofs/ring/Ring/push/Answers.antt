@@ -1,6 +1,7 @@
 use Rattle.std.proofs.Common.{◌≡◌, true, length, refl, arith, rules}
 use lib.Utf8.{scalar}
-use Rattle.buffered.specs.Rings.{held_push, scalars_set}
+use Rattle.input.specs.Held.{scalars_set}
+use Rattle.buffered.specs.Rings.{held_push}
 use Rattle.buffered.proofs.ring.Ring.push.Goals as goal
 
 pub invariant_of-self : goal.invariant_of-self

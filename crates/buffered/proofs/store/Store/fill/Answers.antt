@@ -1,13 +1,8 @@
 use Rattle.std.proofs.Common.{◌<◌, ◌≤◌, length, refl, arith}
 use Rattle.buffered.specs.Store.{queue}
 use Rattle.buffered.specs.Rings.{held_length}
-use Rattle.buffered.proofs.Filling.{fill_more, fill_end, fill_all}
+use Rattle.buffered.proofs.Filling.{fill_end, fill_all}
 use Rattle.buffered.proofs.store.Store.fill.Goals as goal
-
-pub loop-self-preserved-in-Some : goal.loop-self-preserved-in-Some
-loop-self-preserved-in-Some g c =
-    fill_more g.S.Source.ahead g.S.Source.kept g.S.Source.ended c.args.upto c.args.self.now c.loop-self.self c.in-Some.c c.push.new.self
-    c.step.new.self c.loop-self.invariant c.loop-self-test.true c.push.ensures.holds c.in-Some.ensures.gives c.step.ensures.keeps
 
 pub loop-self-preserved : goal.loop-self-preserved
 loop-self-preserved g c =

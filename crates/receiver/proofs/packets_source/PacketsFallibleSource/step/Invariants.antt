@@ -1,6 +1,12 @@
-use Rattle.std.proofs.Common.{◌≡◌, drop}
-use Rattle.receiver.specs.Packets.{received, packets_ahead}
+use Rattle.std.proofs.Common.{◌≡◌, length}
+use Rattle.receiver.specs.Packets.{packets_ahead, packets_ending, packets_given}
 use Rattle.receiver.proofs.packets_source.PacketsFallibleSource.step.Given as goal
 
-abbrev pub invariant-loop-at : goal.invariant-loop-at
-invariant-loop-at l = (l.self ≡ l.initial.self) × (received (drop l.at l.self.slots.now) ≡ packets_ahead l.self)
+-- gaps change nothing of what the packets are
+abbrev pub invariant-loop-self : goal.invariant-loop-self
+invariant-loop-self l =
+    (packets_ahead l.self ≡ packets_ahead l.initial.self) × (packets_ending l.self ≡ packets_ending l.initial.self)
+    × (packets_given l.self ≡ packets_given l.initial.self)
+
+abbrev pub decreases-loop-self : goal.decreases-loop-self
+decreases-loop-self l = length l.self.slots.now

@@ -1,12 +1,9 @@
-use Rattle.std.proofs.Common.{false}
 use Rattle.receiver.specs.Stash.{seen}
+use Rattle.std.proofs.Common.{false}
 use Rattle.input.proofs.Skipping.{Skipping}
 use Rattle.receiver.proofs.stash_input.StashInput.skip_n.Given as goal
 
-abbrev pub invariant-loop-left : goal.invariant-loop-left
-invariant-loop-left g l =
+abbrev pub invariant-loop : goal.invariant-loop
+invariant-loop g l =
     let view = seen g.S.FallibleSource.ahead g.S.FallibleSource.ending in
-    Skipping false l.count l.left (view l.initial.self) (view l.self)
-
-abbrev pub decreases-loop-left : goal.decreases-loop-left
-decreases-loop-left g l = l.left
+    Skipping false l.counter (view l.initial.self) (view l.self)

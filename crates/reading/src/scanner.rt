@@ -1,0 +1,125 @@
+//! How the scanning calls of an input are made: by its own, or character by character.
+
+ghost use Rattle.std.specs.Prelude.{true};
+ghost use Rattle.runs.specs.Scans.{Skims, Fetches};
+ghost use Rattle.reading.specs.Line.{run_skipped, skip_asks, run_fetched, fetch_asks, Scans};
+
+use crate::call::{Answer, Call, FetchCall, ScanCall, SkipCall};
+use char_traits::class::{Alpha, Blank, PrintableNotBreakz, YamlNonSpace};
+use input::Input;
+use runs::Fetched;
+use runs::blanks::{skip_blanks, skip_to_eol};
+use runs::calls::{fetch_line, fetch_while, skip_while};
+use runs::plain::{fetch_chunk, fetch_plain, skip_chunk, skip_plain};
+use scan::Scan;
+
+/// A way to make the scanning calls of an input.
+pub trait Scanner<I: Input> {
+    /// Makes a scanning call; a fetch has the room that is lent.
+    fn scan(input: &mut I, call: ScanCall, room: &mut [u8], filled: usize) -> Answer
+        ensures { Scans I.Input.prompt call (record { call = Call.Scan call; room = room.old; filled = filled; answer = result; left = room.new }) (I.Input.view input.old) (I.Input.view input.new) };
+}
+
+/// By the scanning calls of the input itself.
+pub struct Own;
+
+/// Character by character, of an input that need not scan.
+pub struct ByCharacter;
+
+/// Skips a run.
+fn skip_run<I: Scan>(input: &mut I, skip: SkipCall) -> usize
+    ensures { Skims I.Input.prompt true (skip_asks skip I.Input.prompt) (run_skipped skip (I.Input.view input.old).ahead) result (I.Input.view input.old) (I.Input.view input.new) }
+{
+    match skip {
+        SkipCall::WhileBlank => input.skip_while_blank(),
+        SkipCall::WhileNonBreakz => input.skip_while_non_breakz(),
+        SkipCall::PlainRun(in_flow) => input.skip_plain_run(in_flow),
+    }
+}
+
+/// Fetches a run.
+fn fetch_run<I: Scan>(input: &mut I, fetch: FetchCall, room: &mut [u8], filled: usize) -> Fetched
+    ensures { Fetches I.Input.prompt true (fetch_asks fetch I.Input.prompt) (run_fetched fetch (I.Input.view input.old).ahead) room.old filled result room.new (I.Input.view input.old) (I.Input.view input.new) }
+{
+    match fetch {
+        FetchCall::WhileIsAlpha => input.fetch_while_is_alpha(room, filled),
+        FetchCall::WhileIsYamlNonSpace => input.fetch_while_is_yaml_non_space(room, filled),
+        FetchCall::BlockScalarLine => input.fetch_block_scalar_line(room, filled),
+        FetchCall::PlainRun(in_flow) => input.fetch_plain_run(room, filled, in_flow),
+    }
+}
+
+/// Skips a run, character by character.
+fn step_run<I: Input>(input: &mut I, skip: SkipCall) -> usize
+    ensures { Skims I.Input.prompt true (skip_asks skip I.Input.prompt) (run_skipped skip (I.Input.view input.old).ahead) result (I.Input.view input.old) (I.Input.view input.new) }
+{
+    match skip {
+        SkipCall::WhileBlank => skip_while::<Blank, I>(input),
+        SkipCall::WhileNonBreakz => skip_while::<PrintableNotBreakz, I>(input),
+        SkipCall::PlainRun(in_flow) => skip_plain(input, in_flow),
+    }
+}
+
+/// Fetches a run, character by character.
+fn append_run<I: Input>(input: &mut I, fetch: FetchCall, room: &mut [u8], filled: usize) -> Fetched
+    ensures { Fetches I.Input.prompt true (fetch_asks fetch I.Input.prompt) (run_fetched fetch (I.Input.view input.old).ahead) room.old filled result room.new (I.Input.view input.old) (I.Input.view input.new) }
+{
+    match fetch {
+        FetchCall::WhileIsAlpha => fetch_while::<Alpha, I>(input, room, filled),
+        FetchCall::WhileIsYamlNonSpace => fetch_while::<YamlNonSpace, I>(input, room, filled),
+        FetchCall::BlockScalarLine => fetch_line(input, room, filled),
+        FetchCall::PlainRun(in_flow) => fetch_plain(input, room, filled, in_flow),
+    }
+}
+
+impl<I: Scan> Scanner<I> for Own {
+    fn scan(input: &mut I, call: ScanCall, room: &mut [u8], filled: usize) -> Answer {
+        match call {
+            ScanCall::SkipRun(skip) => Answer::Count(skip_run(input, skip)),
+            ScanCall::FetchRun(fetch) => Answer::Fetch(fetch_run(input, fetch, room, filled)),
+            ScanCall::SkipWsToEol(tabs) => {
+                let (count, result) = input.skip_ws_to_eol(tabs);
+                Answer::ToEol(count, result)
+            }
+            ScanCall::SkipWsToEolBlanks(tabs) => {
+                let (count, flags) = input.skip_ws_to_eol_blanks(tabs);
+                Answer::Blanks(count, flags)
+            }
+            ScanCall::SkipPlainScalarChunk(count, in_flow) => {
+                let (stopped, skipped) = input.skip_plain_scalar_chunk(count, in_flow);
+                Answer::SkippedChunk(stopped, skipped)
+            }
+            ScanCall::FetchPlainScalarChunk(count, in_flow) => {
+                let (stopped, fetched) = input.fetch_plain_scalar_chunk(
+                    room, filled, count, in_flow,
+                );
+                Answer::FetchedChunk(stopped, fetched)
+            }
+        }
+    }
+}
+
+impl<I: Input> Scanner<I> for ByCharacter {
+    fn scan(input: &mut I, call: ScanCall, room: &mut [u8], filled: usize) -> Answer {
+        match call {
+            ScanCall::SkipRun(skip) => Answer::Count(step_run(input, skip)),
+            ScanCall::FetchRun(fetch) => Answer::Fetch(append_run(input, fetch, room, filled)),
+            ScanCall::SkipWsToEol(tabs) => {
+                let (count, result) = skip_to_eol(input, tabs);
+                Answer::ToEol(count, result)
+            }
+            ScanCall::SkipWsToEolBlanks(tabs) => {
+                let (count, flags) = skip_blanks(input, tabs);
+                Answer::Blanks(count, flags)
+            }
+            ScanCall::SkipPlainScalarChunk(count, in_flow) => {
+                let (stopped, skipped) = skip_chunk(input, count, in_flow);
+                Answer::SkippedChunk(stopped, skipped)
+            }
+            ScanCall::FetchPlainScalarChunk(count, in_flow) => {
+                let (stopped, fetched) = fetch_chunk(input, room, filled, count, in_flow);
+                Answer::FetchedChunk(stopped, fetched)
+            }
+        }
+    }
+}

@@ -1,6 +1,0 @@
-pub mod Runs
-pub mod Fronts
-pub mod Facts
-pub mod Courses
-pub mod Shown
-pub mod Alike

@@ -1,3 +1,0 @@
-pub mod Line
-pub mod Sorts
-pub mod Reading
