@@ -1,5 +1,9 @@
 //! What a player has beside its input: rooms, and the lines that it has yet to hand out.
 
+ghost use Rattle.std.specs.Prelude.{◌≡◌, ℕ, List, [], ◌++◌, string_bytes, OnOk};
+ghost use Rattle.player.specs.Aside.{AsideLine};
+ghost use Rattle.player.specs.Meaning.{line_of};
+
 use crate::classes::class_answer;
 use crate::rooms::Rooms;
 use protocol::answer::Answer;
@@ -29,7 +33,9 @@ impl Desk {
     }
 
     /// Answers a command that asks nothing of an input. With one that does, there is none.
-    pub fn aside(&mut self, command: Command) -> Result<(), AllocError> {
+    pub fn aside(&mut self, command: Command) -> Result<(), AllocError>
+        ensures { OnOk result ((line : List ℕ) × (string_bytes self.new.out ≡ string_bytes self.old.out ++ line) × AsideLine command self.old.rooms line) }
+    {
         match command {
             Command::Silent | Command::New => Ok(()),
             Command::Bad => push_answer(&mut self.out, Answer::Bad),
@@ -47,12 +53,18 @@ impl Desk {
     }
 
     /// Answers a new input.
-    pub fn begin(&mut self, answer: Answer) -> Result<(), AllocError> {
+    pub fn begin(&mut self, answer: Answer) -> Result<(), AllocError>
+        ensures line { OnOk result (string_bytes self.new.out ≡ string_bytes self.old.out ++ line_of answer) }
+        ensures rooms { self.new.rooms ≡ self.old.rooms }
+    {
         push_answer(&mut self.out, answer)
     }
 
     /// Hands out the lines that wait.
-    pub fn flush(&mut self, rt: &impl Print) -> io::Result<()> {
+    pub fn flush(&mut self, rt: &impl Print) -> io::Result<()>
+        ensures handed { OnOk result (string_bytes self.new.out ≡ []) }
+        ensures rooms { self.new.rooms ≡ self.old.rooms }
+    {
         rt.write_all(self.out.as_bytes())?;
         self.out.clear();
         Ok(())

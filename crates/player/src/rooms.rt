@@ -1,6 +1,8 @@
 //! The rooms that fetches are given.
 
-ghost use Rattle.std.specs.Prelude.{◌≡◌, ℕ, ◌≤◌, List, ◌++◌, length, replicate, string_bytes, vec_items, OnOk, IfOk};
+ghost use Rattle.std.specs.Prelude.{◌≡◌, ℕ, ◌≤◌, List, [], ◌∷◌, ◌++◌, length, replicate, string_bytes, vec_items, OnOk, IfOk};
+ghost use Rattle.protocol.specs.Digits.{bytes_text};
+ghost use Rattle.player.specs.Rooms.{last_room, Asked};
 ghost use Rattle.player.specs.Meaning.{between, SomeRoom};
 
 use crate::perform::fetch;
@@ -91,13 +93,17 @@ impl Rooms {
     }
 
     /// Gives the next fetch a room of its own.
-    pub fn ask(&mut self, heap: Global, size: usize, filled: usize) -> Result<(), AllocError> {
+    pub fn ask(&mut self, heap: Global, size: usize, filled: usize) -> Result<(), AllocError>
+        ensures { OnOk result (Asked size filled self.old self.new) }
+    {
         self.next = Some(Room::new(heap, size, filled)?);
         Ok(())
     }
 
     /// Appends a line with the last room whole.
-    pub fn show(&self, out: &mut String) -> Result<(), AllocError> {
+    pub fn show(&self, out: &mut String) -> Result<(), AllocError>
+        ensures { OnOk result (string_bytes out.new ≡ string_bytes out.old ++ (bytes_text (last_room self.now) ++ (10 ∷ []))) }
+    {
         match &self.last {
             None => push_room(out, &[]),
             Some(Last::Usual) => push_room(out, self.usual.bytes.as_slice()),
