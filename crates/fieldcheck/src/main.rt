@@ -4,13 +4,15 @@
 mod program;
 
 use buffered::fallible::FallibleBufferedInput;
+use char_traits::is_breakz;
 use checklist::pulls::{codes_of, pull_all_over};
 use checklist::readings::read_out;
-use error::Refusal;
+use checklist::scans::{count_line_ends, finds_start, inserted, leaves_hash, setpoint_end};
+use error::{Refusal, is_too_long};
 use listing::{drawn_line, split_line};
 use program::CONE_SIX;
 use source::bytes::ByteChars;
-use std::alloc::AllocError;
+use std::alloc::{AllocError, Global};
 use std::process::ExitCode;
 use std::{env, fs, io};
 use str_input::text::StrInput;
@@ -21,6 +23,11 @@ const BUILT_IN: &str = "cone six (built in)";
 const MOST_CODES: usize = 16_383;
 
 const MOST_PULLS: usize = 600;
+
+/// What line C adds to the program: a marker on a line of its own, and a comment.
+const MARKER: &[u8] = b"\n---";
+
+const COMMENT: &[u8] = b"#hot";
 
 /// Why the program ends with status 1.
 #[derive(Drop)]
@@ -118,6 +125,83 @@ fn check_pulls(rt: &HostRuntime, chars: &[char]) -> Result<bool, Stop> {
     Ok(all)
 }
 
+/// Whether a document start stands after so many characters, by card and by cable.
+fn start_by_both(bytes: &[u8], place: usize) -> Result<bool, Refusal> {
+    let mut card = StrInput::new();
+    card.load(bytes)?;
+    let mut source = ByteChars::new();
+    source.load(bytes)?;
+    let mut cable = FallibleBufferedInput::new(source);
+    Ok(finds_start(&mut card, place) && finds_start(&mut cable, place))
+}
+
+/// Whether a `#` after so many characters is left, by card and by cable.
+fn hash_by_both(bytes: &[u8], place: usize) -> Result<bool, Refusal> {
+    let mut card = StrInput::new();
+    card.load(bytes)?;
+    let mut source = ByteChars::new();
+    source.load(bytes)?;
+    let mut cable = FallibleBufferedInput::new(source);
+    Ok(leaves_hash(&mut card, place) && leaves_hash(&mut cable, place))
+}
+
+/// How many line ends the skips stop at, by card and by cable.
+fn line_ends_by_both(bytes: &[u8]) -> Result<(usize, usize), Refusal> {
+    let mut card = StrInput::new();
+    card.load(bytes)?;
+    let mut source = ByteChars::new();
+    source.load(bytes)?;
+    let mut cable = FallibleBufferedInput::new(source);
+    Ok((count_line_ends(&mut card), count_line_ends(&mut cable)))
+}
+
+/// How many characters a text has.
+fn characters_in(heap: Global, bytes: &[u8]) -> Result<usize, Stop> {
+    let mut card = StrInput::new();
+    card.load(bytes)?;
+    let taken = read_out(heap, &mut card)?;
+    Ok(taken.chars.len())
+}
+
+fn line_ends_in(chars: &[char]) -> usize {
+    let mut count = 0usize;
+    for c in chars {
+        if is_breakz(*c) {
+            count = count.saturating_add(1);
+        }
+    }
+    count
+}
+
+/// Line C: a marker as the last three bytes is found, a `#` glued to a setpoint is left, and no skip passes a line end.
+fn check_scans(rt: &HostRuntime, bytes: &[u8], chars: &[char]) -> Result<bool, Stop> {
+    let heap = rt.alloc();
+    let marked = inserted(heap, bytes, bytes.len(), MARKER)?;
+    if is_too_long(marked.len()) {
+        println!(rt; "C  --    the program is too long to add to")?;
+        return Ok(true);
+    }
+    let start = start_by_both(marked.as_slice(), chars.len().saturating_add(1))?;
+    let place = setpoint_end(bytes);
+    let glued = inserted(heap, bytes, place, COMMENT)?;
+    let before = characters_in(heap, &bytes[0..place.min(bytes.len())])?;
+    let left = hash_by_both(glued.as_slice(), before)?;
+    let ends = line_ends_in(chars);
+    let (by_card, by_cable) = line_ends_by_both(bytes)?;
+    let stopped = by_card == ends && by_cable == ends;
+    let all = start && left && stopped;
+    if all {
+        println!(rt;
+            "C  ok    marker at the end found, glued # left, skips stop at all {ends} line ends: card and cable"
+        )?;
+    } else {
+        println!(rt;
+            "C  FAIL  marker found {start}, glued # left {left}, line ends {ends}: {by_card} by card, {by_cable} by cable"
+        )?;
+    }
+    Ok(all)
+}
+
 fn show(rt: &HostRuntime, name: &str, bytes: &[u8]) -> Result<(), Stop> {
     let heap = rt.alloc();
     let mut card = StrInput::new();
@@ -136,7 +220,8 @@ fn show(rt: &HostRuntime, name: &str, bytes: &[u8]) -> Result<(), Stop> {
     println!(rt; "lines {lines}, characters {count}, bytes {size}")?;
     let same = check_sides(rt, &compared)?;
     let told = check_pulls(rt, by_card.chars.as_slice())?;
-    if same && told {
+    let stopped = check_scans(rt, bytes, by_card.chars.as_slice())?;
+    if same && told && stopped {
         Ok(())
     } else {
         Err(Stop::Failed)
