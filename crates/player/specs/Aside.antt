@@ -1,8 +1,8 @@
 -- What is answered to a command that asks nothing of an input. Assumes nothing.
 use Rattle.std.specs.Prelude.{◌≡◌, ℕ, List, [], ◌∷◌, ◌++◌}
-use Rattle.protocol.specs.Digits.{bytes_text}
-use Rattle.protocol.specs.declared.answer.Answer.{Answer}
-use Rattle.protocol.specs.declared.answer.Answer.TheVariants as answer
+use Rattle.answers.specs.Digits.{bytes_text}
+use Rattle.answers.specs.declared.answer.Answer.{Answer}
+use Rattle.answers.specs.declared.answer.Answer.TheVariants as answer
 use Rattle.protocol.specs.declared.command.Command.{Command}
 use Rattle.protocol.specs.declared.command.Command.TheVariants.{Silent, Bad, New, Class, Production, Room, RoomBytes, Call}
 use Rattle.player.specs.declared.rooms.Rooms.{Rooms}

@@ -3,9 +3,9 @@ use Rattle.std.specs.Prelude.{◌≡◌, ℕ, Bool}
 use Rattle.std.specs.Char.{IsScalar}
 use Rattle.error.specs.declared.Refusal.TheVariants.{NotACharacter}
 use Rattle.char_traits.specs.Chars.{z, line_break, breakz, blank, blank_or_breakz, digit, alpha, hex, flow, bom, yaml_non_break, printable, yaml_non_space, anchor, word, uri, tag}
-use Rattle.protocol.specs.declared.answer.Answer.{Answer}
-use Rattle.protocol.specs.declared.names.Class.{Class}
-use Rattle.protocol.specs.declared.names.Production.{Production}
+use Rattle.answers.specs.declared.answer.Answer.{Answer}
+use Rattle.names.specs.declared.Class.{Class}
+use Rattle.names.specs.declared.Production.{Production}
 
 abbrev pub class_of : Class → ℕ → Bool
 class_of Class.Z = z

@@ -12,12 +12,12 @@ use Rattle.runs.specs.declared.Fetched.{Fetched}
 use Rattle.runs.specs.declared.WhitespaceResult.{WhitespaceResult}
 use Rattle.runs.specs.Runs.{run_of, plain_run}
 use Rattle.runs.specs.Scans.{scan_asks, Skims, Fetches, SkipsChunk, FetchesChunk, SkipsBlanks, SkipsToEol}
-use Rattle.protocol.specs.Answers.{answer_text, fetched_text, tested}
-use Rattle.protocol.specs.Digits.{bytes_text}
-use Rattle.protocol.specs.declared.answer.Answer.{Answer}
-use Rattle.protocol.specs.declared.names.Step.{Step}
-use Rattle.protocol.specs.declared.names.Counted.{Counted}
-use Rattle.protocol.specs.declared.names.Test.{Test}
+use Rattle.answers.specs.Answers.{answer_text, fetched_text, tested}
+use Rattle.answers.specs.Digits.{bytes_text}
+use Rattle.answers.specs.declared.answer.Answer.{Answer}
+use Rattle.names.specs.declared.Step.{Step}
+use Rattle.names.specs.declared.Counted.{Counted}
+use Rattle.names.specs.declared.Test.{Test}
 use Rattle.protocol.specs.declared.command.Comparison.{Comparison}
 use Rattle.protocol.specs.declared.command.Skim.{Skim}
 use Rattle.protocol.specs.declared.command.Fetch.{Fetch}

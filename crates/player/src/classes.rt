@@ -3,14 +3,14 @@
 ghost use Rattle.std.specs.Prelude.{◌≡◌, ℕ, Bool};
 ghost use Rattle.player.specs.Classes.{class_of, production_of, AnswersClass};
 
+use answers::answer::Answer;
 use char_traits::{
     is_alpha, is_anchor_char, is_blank, is_blank_or_breakz, is_bom, is_break, is_breakz, is_digit,
     is_flow, is_hex, is_printable, is_tag_char, is_uri_char, is_word_char, is_yaml_non_break,
     is_yaml_non_space, is_z,
 };
 use error::Refusal;
-use protocol::answer::Answer;
-use protocol::names::{Class, Production};
+use names::{Class, Production};
 
 /// A predicate on characters that has a name.
 pub trait Predicate: Copy {

@@ -6,9 +6,9 @@ ghost use Rattle.player.specs.Meaning.{line_of};
 
 use crate::classes::class_answer;
 use crate::rooms::Rooms;
-use protocol::answer::Answer;
+use answers::answer::Answer;
+use answers::line::push_answer;
 use protocol::command::Command;
-use protocol::line::push_answer;
 use std::alloc::{AllocError, Global};
 use std::io;
 

@@ -4,14 +4,14 @@ ghost use Rattle.std.specs.Prelude.{◌≡◌, Bool, Result};
 ghost use Rattle.error.specs.Numbers.{outcome};
 ghost use Rattle.error.specs.declared.Refusal.{Refusal as Refused};
 ghost use Rattle.input.specs.Tests.{flag};
-ghost use Rattle.protocol.specs.Answers.{tested};
+ghost use Rattle.answers.specs.Answers.{tested};
 ghost use Rattle.player.specs.Meaning.{Steps, Counts, Tests, Comparing, to_eol, Skimming, Fetching};
 
+use answers::answer::Answer;
 use error::Refusal;
 use input::{Input, calls};
-use protocol::answer::Answer;
+use names::{Counted, Step, Test};
 use protocol::command::{Comparison, Fetch, Skim};
-use protocol::names::{Counted, Step, Test};
 use runs::{Fetched, WhitespaceResult};
 use scan::Scan;
 

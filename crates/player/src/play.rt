@@ -5,12 +5,12 @@ ghost use Rattle.player.specs.Meaning.{part_line, Plays};
 
 use crate::perform::{compare, counted, skim, step, test};
 use crate::rooms::Rooms;
+use answers::answer::Answer;
+use answers::line::{push_answer, push_part};
 use input::borrowed::BorrowedInput;
 use input::ticket::Reading;
 use input::{Input, calls};
-use protocol::answer::Answer;
 use protocol::command::Call;
-use protocol::line::{push_answer, push_part};
 use scan::Scan;
 use std::alloc::AllocError;
 

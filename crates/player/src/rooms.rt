@@ -1,13 +1,13 @@
 //! The rooms that fetches are given.
 
 ghost use Rattle.std.specs.Prelude.{◌≡◌, ℕ, ◌≤◌, List, [], ◌∷◌, ◌++◌, length, replicate, string_bytes, vec_items, OnOk, IfOk};
-ghost use Rattle.protocol.specs.Digits.{bytes_text};
+ghost use Rattle.answers.specs.Digits.{bytes_text};
 ghost use Rattle.player.specs.Rooms.{last_room, Asked};
 ghost use Rattle.player.specs.Meaning.{between, SomeRoom};
 
 use crate::perform::fetch;
+use answers::line::{push_fetched, push_room};
 use protocol::command::Fetch;
-use protocol::line::{push_fetched, push_room};
 use scan::Scan;
 use std::alloc::{AllocError, Global};
 

@@ -1,3 +1,1 @@
-pub mod Hex
 pub mod Spelling
-pub mod Written

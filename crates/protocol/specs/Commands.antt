@@ -1,11 +1,11 @@
 -- The call that a name stands for, with its arguments. Assumes nothing.
 use Rattle.std.specs.Prelude.{ℕ, Bool}
 use Rattle.runs.specs.declared.SkipTabs.{SkipTabs}
-use Rattle.protocol.specs.declared.names.Scan.{Scan}
-use Rattle.protocol.specs.declared.names.Flowing.{Flowing}
-use Rattle.protocol.specs.declared.names.Tabbed.{Tabbed}
-use Rattle.protocol.specs.declared.names.Chunk.{Chunk}
-use Rattle.protocol.specs.declared.names.Own.{Own}
+use Rattle.names.specs.declared.Scan.{Scan}
+use Rattle.names.specs.declared.Flowing.{Flowing}
+use Rattle.names.specs.declared.Tabbed.{Tabbed}
+use Rattle.names.specs.declared.Chunk.{Chunk}
+use Rattle.names.specs.declared.Own.{Own}
 use Rattle.protocol.specs.declared.command.Skim.{Skim}
 use Rattle.protocol.specs.declared.command.Fetch.{Fetch}
 use Rattle.protocol.specs.declared.command.Call.{Call}

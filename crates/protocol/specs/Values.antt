@@ -1,5 +1,5 @@
 -- What a word writes: a number, a flag, bytes. Assumes nothing.
-use Rattle.std.specs.Prelude.{◌≡◌, ℕ, ◌+◌, ◌*◌, ◌^◌, ◌<◌, Bool, true, false, ◌⊎◌, List, [], length, Some, None, vec_items, codes, Option, Vec, slice_index}
+use Rattle.std.specs.Prelude.{◌≡◌, ℕ, ◌+◌, ◌*◌, ◌^◌, ◌<◌, ◌⊎◌, List, [], length, Some, None, vec_items, codes, Option, Vec, slice_index}
 use Rattle.std.specs.Str.Parse.{IsNumeral, digits_value, without_leading_plus}
 use Rattle.std.specs.Char.{digit_value}
 use Rattle.std.specs.declared.alloc.Global.{Global}
@@ -16,10 +16,6 @@ Writes bits base word = IsNumeral base (without_leading_plus word) × (digits_va
 abbrev pub Reads : ℕ → ℕ → List ℕ → Option ℕ → Type 0
 Reads bits base word None = Writes bits base word → ⊥
 Reads bits base word (Some n) = Writes bits base word × (n ≡ digits_value base (without_leading_plus word))
-
-abbrev pub truth_name : Bool → List ℕ
-truth_name true = codes "true"
-truth_name false = codes "false"
 
 abbrev pub skip_tabs_name : SkipTabs → List ℕ
 skip_tabs_name Yes = codes "yes"

@@ -3,8 +3,8 @@
 ghost use Rattle.std.specs.Prelude.{◌≡◌};
 ghost use Rattle.protocol.specs.Commands.{flowing_call, tabbed_call, chunk_call};
 
-use crate::names::{Chunk, Class, Counted, Flowing, Own, Production, Scan, Step, Tabbed, Test};
 use crate::values::{code_of, count_of, skip_tabs_of, truth_of};
+use names::{Chunk, Class, Counted, Flowing, Own, Production, Scan, Step, Tabbed, Test};
 use runs::SkipTabs;
 use std::str::{SplitAsciiWhitespace, from_utf8};
 

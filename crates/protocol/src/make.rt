@@ -1,7 +1,7 @@
 //! A line that asks for a new input.
 
 ghost use Rattle.std.specs.Prelude.{IfOk};
-ghost use Rattle.protocol.specs.Names.{Named};
+ghost use Rattle.names.specs.Names.{Named};
 ghost use Rattle.protocol.specs.Values.{DashOrSpells, ending_name};
 
 use crate::values::{bytes_of, code_of};

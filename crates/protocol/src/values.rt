@@ -2,8 +2,8 @@
 
 ghost use Rattle.std.specs.Prelude.{◌≡◌, ℕ, ◌+◌, ◌*◌, ◌<◌, ◌≤◌, Bool, IfOk, codes, MatchOption};
 ghost use Rattle.std.specs.Char.{digit_value};
-ghost use Rattle.protocol.specs.Names.{Named};
-ghost use Rattle.protocol.specs.Values.{Reads, SpellsByte, Spells, SpellsSome, truth_name, skip_tabs_name};
+ghost use Rattle.names.specs.Names.{Named, truth_name};
+ghost use Rattle.protocol.specs.Values.{Reads, SpellsByte, Spells, SpellsSome, skip_tabs_name};
 
 use runs::SkipTabs;
 use std::alloc::{AllocError, Global};

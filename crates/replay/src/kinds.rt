@@ -3,13 +3,13 @@
 ghost use Rattle.player.specs.Lines.{Leaves};
 ghost use Rattle.std.specs.Prelude.{IfOk};
 
+use answers::answer::Answer;
 use buffered::buffered::BufferedInput;
 use buffered::fallible::FallibleBufferedInput;
 use error::Refusal;
 use input::borrowed::BorrowedInput;
 use player::desk::Desk;
 use player::list::{Lines, idle, serve};
-use protocol::answer::Answer;
 use scan::Scan;
 use source::bytes::ByteChars;
 use source::codes::{Codes, CodesEnding};

@@ -6,10 +6,10 @@ ghost use Rattle.player.specs.Lines.{Leaves};
 
 mod kinds;
 
+use answers::answer::Answer;
 use kinds::{on, ring_of_bytes, ring_of_codes, ring_of_text, slice};
 use player::desk::Desk;
 use player::list::{Lines, idle};
-use protocol::answer::Answer;
 use protocol::make::{Make, parse_new};
 use std::io;
 use std::io::Read;

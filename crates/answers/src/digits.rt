@@ -2,7 +2,7 @@
 
 ghost use Rattle.std.specs.Prelude.{◌≡◌, ◌<◌, [], ◌∷◌, ◌++◌, string_bytes, OnOk};
 ghost use Rattle.std.specs.Char.{digit_char};
-ghost use Rattle.protocol.specs.Digits.{digits_of, bytes_text};
+ghost use Rattle.answers.specs.Digits.{digits_of, bytes_text};
 
 use std::alloc::AllocError;
 use std::fmt::Write;

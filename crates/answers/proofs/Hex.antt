@@ -2,7 +2,7 @@
 use Rattle.std.proofs.Common.{◌≡◌, ℕ, suc, ◌/◌, ◌%◌, ◌<◌, ◌≤◌, false, cond, nat_lt, List, [], ◌∷◌, ap, ◌∙◌, arith}
 use Rattle.std.specs.Char.{digit_char}
 use Rattle.std.specs.Fmt.{digits, digits_onto}
-use Rattle.protocol.specs.Answers.{digit_at, code_text}
+use Rattle.answers.specs.Answers.{digit_at, code_text}
 
 last : (k c : ℕ) (acc : List ℕ) → c < 16 → digits_onto (suc k) 16 false c acc ≡ digit_char (c % 16) ∷ acc
 last k c acc h = let none : c / 16 ≡ 0 = omega arith in grind arith

@@ -1,16 +1,16 @@
--- The name of each call and class, and what a word names. Assumes nothing.
-use Rattle.std.specs.Prelude.{◌≡◌, ℕ, List, Some, None, codes, Option, Result, ◌≢◌}
+-- The name of each call, class and flag, and what a word names. Assumes nothing.
+use Rattle.std.specs.Prelude.{◌≡◌, ℕ, Bool, true, false, List, Some, None, codes, Option, Result, ◌≢◌}
 use Rattle.std.specs.Result.{result_ok}
-use Rattle.protocol.specs.declared.names.Step.{Step}
-use Rattle.protocol.specs.declared.names.Test.{Test}
-use Rattle.protocol.specs.declared.names.Scan.{Scan}
-use Rattle.protocol.specs.declared.names.Counted.{Counted}
-use Rattle.protocol.specs.declared.names.Flowing.{Flowing}
-use Rattle.protocol.specs.declared.names.Tabbed.{Tabbed}
-use Rattle.protocol.specs.declared.names.Chunk.{Chunk}
-use Rattle.protocol.specs.declared.names.Own.{Own}
-use Rattle.protocol.specs.declared.names.Class.{Class}
-use Rattle.protocol.specs.declared.names.Production.{Production}
+use Rattle.names.specs.declared.Step.{Step}
+use Rattle.names.specs.declared.Test.{Test}
+use Rattle.names.specs.declared.Scan.{Scan}
+use Rattle.names.specs.declared.Counted.{Counted}
+use Rattle.names.specs.declared.Flowing.{Flowing}
+use Rattle.names.specs.declared.Tabbed.{Tabbed}
+use Rattle.names.specs.declared.Chunk.{Chunk}
+use Rattle.names.specs.declared.Own.{Own}
+use Rattle.names.specs.declared.Class.{Class}
+use Rattle.names.specs.declared.Production.{Production}
 
 -- a word names the one whose name it is, or else none
 abbrev pub Named : {T : Type 0} → (T → List ℕ) → List ℕ → Option T → Type 0
@@ -20,6 +20,10 @@ Named name word (Some x) = name x ≡ word
 -- the same, where an error tells that there is none
 abbrev pub ReadsName : {T E : Type 0} → (T → List ℕ) → List ℕ → Result T E → Type 0
 ReadsName name word r = Named name word (result_ok r)
+
+abbrev pub truth_name : Bool → List ℕ
+truth_name true = codes "true"
+truth_name false = codes "false"
 
 abbrev pub step_name : Step → List ℕ
 step_name Step.Buflen = codes "buflen"

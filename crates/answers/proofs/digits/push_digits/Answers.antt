@@ -1,7 +1,7 @@
 use Rattle.std.proofs.Common.{false, slice_index_or, string_bytes, rules}
 use Rattle.std.proofs.lemmas.Fmt.{hex_byte}
-use Rattle.protocol.proofs.Written.{digits_more}
-use Rattle.protocol.proofs.digits.push_digits.Goals as goal
+use Rattle.answers.proofs.Written.{digits_more}
+use Rattle.answers.proofs.digits.push_digits.Goals as goal
 
 pub loop-byte-preserved : goal.loop-byte-preserved
 loop-byte-preserved c =

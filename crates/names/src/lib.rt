@@ -1,6 +1,7 @@
 //! The names of calls and classes.
+#![tactic(auto)]
 
-ghost use Rattle.protocol.specs.Names.{step_name, test_name, scan_name, counted_name, flowing_name, tabbed_name, chunk_name, own_name, class_name, production_name, ReadsName};
+ghost use Rattle.names.specs.Names.{step_name, test_name, scan_name, counted_name, flowing_name, tabbed_name, chunk_name, own_name, class_name, production_name, ReadsName};
 
 use std::str::FromStr;
 

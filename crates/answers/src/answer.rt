@@ -1,7 +1,7 @@
 //! Answers as text.
 
 ghost use Rattle.std.specs.Prelude.{◌≡◌, Some};
-ghost use Rattle.protocol.specs.Answers.{kind_text, fault_text, code_text, refusal_text, closing_text, answer_text};
+ghost use Rattle.answers.specs.Answers.{kind_text, fault_text, code_text, refusal_text, closing_text, answer_text};
 
 use error::{Fault, FaultKind, Refusal};
 use input::Closing;
@@ -30,7 +30,7 @@ pub enum Answer {
 }
 
 impl From<Result<bool, Refusal>> for Answer {
-    ghost use Rattle.protocol.specs.Answers.{tested};
+    ghost use Rattle.answers.specs.Answers.{tested};
 
     ghost from_gives = { λ told answer. answer ≡ tested told };
 

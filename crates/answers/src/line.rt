@@ -1,8 +1,8 @@
 //! Lines of answers.
 
 ghost use Rattle.std.specs.Prelude.{◌≡◌, [], ◌∷◌, ◌++◌, string_bytes, codes, OnOk};
-ghost use Rattle.protocol.specs.Answers.{answer_text, taken_text, end_text, beyond, run_text, fetched_text};
-ghost use Rattle.protocol.specs.Digits.{bytes_text};
+ghost use Rattle.answers.specs.Answers.{answer_text, taken_text, end_text, beyond, run_text, fetched_text};
+ghost use Rattle.answers.specs.Digits.{bytes_text};
 
 use crate::answer::{Answer, Refused};
 use crate::digits::push_bytes;

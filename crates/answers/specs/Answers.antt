@@ -9,9 +9,9 @@ use Rattle.error.specs.declared.Refusal.{Refusal}
 use Rattle.error.specs.declared.Refusal.TheVariants.{BeyondRoom}
 use Rattle.input.specs.declared.Closing.{Closing}
 use Rattle.input.specs.declared.Closing.TheVariants.{Left, Failed, Whole}
-use Rattle.protocol.specs.declared.answer.Answer.{Answer}
-use Rattle.protocol.specs.Values.{truth_name}
-use Rattle.protocol.specs.Digits.{bytes_text}
+use Rattle.answers.specs.declared.answer.Answer.{Answer}
+use Rattle.names.specs.Names.{truth_name}
+use Rattle.answers.specs.Digits.{bytes_text}
 
 -- a test's answer, or its refusal
 abbrev pub tested : Result Bool Refusal → Answer
