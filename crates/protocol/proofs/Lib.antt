@@ -1,1 +1,5 @@
+pub mod Listing
+pub mod Making
+pub mod Naming
 pub mod Spelling
+pub mod Words

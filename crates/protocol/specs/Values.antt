@@ -39,10 +39,6 @@ abbrev pub SpellsSome : List ℕ → Option (Vec ℕ Global) → Type 0
 SpellsSome word None = (bytes : List ℕ) → Spells word bytes → ⊥
 SpellsSome word (Some bytes) = Spells word (vec_items bytes)
 
--- a dash or nothing stands for no bytes, and any other word for the bytes that it spells
+-- a dash stands for no bytes, and any other word for the bytes that it spells
 abbrev pub StandsFor : List ℕ → List ℕ → Type 0
-StandsFor word bytes = (((word ≡ []) ⊎ (word ≡ codes "-")) × (bytes ≡ [])) ⊎ Spells word bytes
-
-abbrev pub DashOrSpells : List ℕ → Option (Vec ℕ Global) → Type 0
-DashOrSpells word None = (bytes : List ℕ) → StandsFor word bytes → ⊥
-DashOrSpells word (Some bytes) = StandsFor word (vec_items bytes)
+StandsFor word bytes = ((word ≡ codes "-") × (bytes ≡ [])) ⊎ Spells word bytes

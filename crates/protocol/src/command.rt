@@ -1,6 +1,8 @@
 //! One line as a command.
 
-ghost use Rattle.std.specs.Prelude.{◌≡◌};
+ghost use Rattle.std.specs.Prelude.{◌≡◌, ℕ, List, [], ◌∷◌, codes};
+ghost use Rattle.protocol.specs.Forms.{Count, Code, Reading, AsksOf, IsLine};
+ghost use Rattle.protocol.specs.Words.{words_of, to_come, TakesWord};
 ghost use Rattle.protocol.specs.Commands.{flowing_call, tabbed_call, chunk_call};
 
 use crate::values::{code_of, count_of, skip_tabs_of, truth_of};
@@ -137,17 +139,27 @@ fn chunk_call(chunk: Chunk, count: usize, in_flow: bool) -> Call
     }
 }
 
-fn bare(name: &str) -> Option<Command> {
-    name.parse::<Step>()
-        .map(Call::Step)
-        .or_else(|_| name.parse::<Test>().map(Call::Test))
-        .or_else(|_| name.parse::<Scan>().map(Call::from))
-        .map(Command::Call)
-        .or_else(|_| name.parse::<Own>().map(Command::from))
-        .ok()
+#[tactic(auto, using(crate::proofs::Naming::no_bare))]
+fn bare(name: &str) -> Option<Command>
+    ensures { Reading (name.now ∷ []) result }
+{
+    if let Ok(step) = name.parse() {
+        return Some(Call::Step(step).into());
+    }
+    if let Ok(test) = name.parse() {
+        return Some(Call::Test(test).into());
+    }
+    if let Ok(scan) = name.parse::<Scan>() {
+        return Some(Call::from(scan).into());
+    }
+    let own = name.parse::<Own>().ok()?;
+    Some(own.into())
 }
 
-fn with_one(name: &str, word: &str) -> Option<Command> {
+#[tactic(auto, using(crate::proofs::Naming::no_with_one))]
+fn with_one(name: &str, word: &str) -> Option<Command>
+    ensures { Reading (name.now ∷ word.now ∷ []) result }
+{
     if let Ok(counted) = name.parse() {
         return Some(Call::Counted(counted, count_of(word)?).into());
     }
@@ -163,24 +175,31 @@ fn with_one(name: &str, word: &str) -> Option<Command> {
     }
 }
 
-fn class_command(name: &str, code: u32) -> Option<Command> {
-    name.parse::<Class>()
-        .map(|class| Command::Class(class, code))
-        .or_else(|_| {
-            name.parse::<Production>()
-                .map(|production| Command::Production(production, code))
-        })
-        .ok()
+#[tactic(auto, using(crate::proofs::Naming::no_class))]
+fn class_command(name: &str, code: u32) -> Option<Command>
+    ensures { (word : List ℕ) → Code code word → Reading (codes "class" ∷ name.now ∷ word ∷ []) result }
+{
+    if let Ok(class) = name.parse() {
+        return Some(Command::Class(class, code));
+    }
+    let production = name.parse().ok()?;
+    Some(Command::Production(production, code))
 }
 
 /// The largest room that can be asked for.
 const MOST_ROOM: usize = 1_000_000;
 
-fn room_command(size: usize, filled: usize) -> Option<Command> {
+#[tactic(auto, using(crate::proofs::Naming::no_room))]
+fn room_command(size: usize, filled: usize) -> Option<Command>
+    ensures { (first second : List ℕ) → Count size first → Count filled second → Reading (codes "room" ∷ first ∷ second ∷ []) result }
+{
     (size <= MOST_ROOM).then_some(Command::Room(size, filled))
 }
 
-fn with_two(name: &str, first: &str, second: &str) -> Option<Command> {
+#[tactic(auto, using(crate::proofs::Naming::no_with_two))]
+fn with_two(name: &str, first: &str, second: &str) -> Option<Command>
+    ensures { Reading (name.now ∷ first.now ∷ second.now ∷ []) result }
+{
     if let Ok(chunk) = name.parse() {
         return Some(chunk_call(chunk, count_of(first)?, truth_of(second)?).into());
     }
@@ -200,7 +219,10 @@ fn with_two(name: &str, first: &str, second: &str) -> Option<Command> {
     }
 }
 
-fn with_three(name: &str, first: &str, second: &str, third: &str) -> Option<Command> {
+#[tactic(auto, using(crate::proofs::Naming::no_with_three))]
+fn with_three(name: &str, first: &str, second: &str, third: &str) -> Option<Command>
+    ensures { Reading (name.now ∷ first.now ∷ second.now ∷ third.now ∷ []) result }
+{
     match name {
         "next_3_are" => {
             let comparison = Comparison::Three(code_of(first)?, code_of(second)?, code_of(third)?);
@@ -210,9 +232,25 @@ fn with_three(name: &str, first: &str, second: &str, third: &str) -> Option<Comm
     }
 }
 
+/// The first of the words that are yet to come.
+#[tactic(auto, using(crate::proofs::Words::takes_word))]
+pub(crate) fn next_word<'a>(words: &mut SplitAsciiWhitespace<'a>) -> Option<&'a str>
+    ensures { TakesWord (to_come words.old) result (to_come words.new) }
+{
+    words.next()
+}
+
 /// The words of a line after its name, as a command takes four at most.
-fn known(name: &str, mut words: SplitAsciiWhitespace<'_>) -> Option<Command> {
-    match (words.next(), words.next(), words.next(), words.next()) {
+#[tactic(auto, using(crate::proofs::Naming::no_with_four))]
+fn known(name: &str, mut words: SplitAsciiWhitespace<'_>) -> Option<Command>
+    ensures { Reading (name.now ∷ to_come words.entry) result }
+{
+    match (
+        next_word(&mut words),
+        next_word(&mut words),
+        next_word(&mut words),
+        next_word(&mut words),
+    ) {
         (None, _, _, _) => bare(name),
         (Some(first), None, _, _) => with_one(name, first),
         (Some(first), Some(second), None, _) => with_two(name, first, second),
@@ -221,9 +259,11 @@ fn known(name: &str, mut words: SplitAsciiWhitespace<'_>) -> Option<Command> {
     }
 }
 
-fn command_of(text: &str) -> Command {
+fn command_of(text: &str) -> Command
+    ensures { AsksOf (words_of text.now) result }
+{
     let mut words = text.split_ascii_whitespace();
-    match words.next() {
+    match next_word(&mut words) {
         None => Command::Silent,
         Some(name) if name.starts_with('#') => Command::Silent,
         Some("new") => Command::New,
@@ -232,6 +272,8 @@ fn command_of(text: &str) -> Command {
 }
 
 /// The command that a line is.
-pub fn parse(line: &[u8]) -> Command {
+pub fn parse(line: &[u8]) -> Command
+    ensures { IsLine line.now result }
+{
     from_utf8(line).map_or(Command::Bad, command_of)
 }

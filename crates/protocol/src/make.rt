@@ -1,9 +1,12 @@
 //! A line that asks for a new input.
 
-ghost use Rattle.std.specs.Prelude.{IfOk};
+ghost use Rattle.std.specs.Prelude.{[], ◌∷◌, codes, drop, IfOk};
 ghost use Rattle.names.specs.Names.{Named};
-ghost use Rattle.protocol.specs.Values.{DashOrSpells, ending_name};
+ghost use Rattle.protocol.specs.Values.{ending_name};
+ghost use Rattle.protocol.specs.Words.{words_of, to_come};
+ghost use Rattle.protocol.specs.Makes.{ReadsBytes, ReadsCodes, AsksFor, IsNewLine};
 
+use crate::command::next_word;
 use crate::values::{bytes_of, code_of};
 use source::codes::CodesEnding;
 use std::alloc::{AllocError, Global};
@@ -18,14 +21,28 @@ pub enum Make {
     Codes(Vec<u32>, CodesEnding),
 }
 
-/// Bytes of a text. A dash, or no word at all, stands for none.
+/// The bytes that a word stands for: a dash for none.
 fn text_of(heap: Global, word: &str) -> Result<Option<Vec<u8>>, AllocError>
-    ensures { IfOk result (λ told. DashOrSpells word.now told) }
+    ensures { IfOk result (λ told. ReadsBytes (word.now ∷ []) told) }
 {
-    if word.is_empty() || word == "-" {
+    if word == "-" {
         return Ok(Some(Vec::new(heap)));
     }
     bytes_of(heap, word.as_bytes())
+}
+
+/// The bytes that one word stands for, or none at all if there is no word.
+fn bytes_in(
+    heap: Global,
+    mut words: SplitAsciiWhitespace<'_>,
+) -> Result<Option<Vec<u8>>, AllocError>
+    ensures { IfOk result (λ told. ReadsBytes (to_come words.entry) told) }
+{
+    match (next_word(&mut words), next_word(&mut words)) {
+        (None, _) => Ok(Some(Vec::new(heap))),
+        (Some(word), None) => text_of(heap, word),
+        _ => Ok(None),
+    }
 }
 
 /// How a list of codes ends, by its name.
@@ -40,7 +57,10 @@ fn ending_of(word: &str) -> Option<CodesEnding>
 }
 
 /// The codes of these words, if each is one.
-fn codes_of(heap: Global, words: SplitAsciiWhitespace<'_>) -> Result<Option<Vec<u32>>, AllocError> {
+#[tactic(auto, using(crate::proofs::Words::takes_word, crate::proofs::Listing::codes_all))]
+fn codes_in(heap: Global, words: SplitAsciiWhitespace<'_>) -> Result<Option<Vec<u32>>, AllocError>
+    ensures { IfOk result (λ told. ReadsCodes (to_come words.entry) told) }
+{
     let mut codes = Vec::new(heap);
     for word in words {
         match code_of(word) {
@@ -51,48 +71,43 @@ fn codes_of(heap: Global, words: SplitAsciiWhitespace<'_>) -> Result<Option<Vec<
     Ok(Some(codes))
 }
 
-/// What is made of bytes, which are one word, or none.
-fn of_bytes<F: FnOnce(Vec<u8>) -> Make + Drop>(
-    heap: Global,
-    mut words: SplitAsciiWhitespace<'_>,
-    make: F,
-) -> Result<Option<Make>, AllocError>
-    requires { F.IsAlwaysCallable make }
+fn codes_make(heap: Global, mut words: SplitAsciiWhitespace<'_>) -> Result<Option<Make>, AllocError>
+    ensures { IfOk result (λ told. AsksFor (codes "ring" ∷ codes "codes" ∷ to_come words.entry) told) }
 {
-    let word = words.next().unwrap_or("");
-    if words.next().is_some() {
-        return Ok(None);
-    }
-    Ok(text_of(heap, word)?.map(make))
-}
-
-fn of_codes(heap: Global, mut words: SplitAsciiWhitespace<'_>) -> Result<Option<Make>, AllocError> {
-    match words.next().and_then(ending_of) {
-        Some(ending) => Ok(codes_of(heap, words)?.map(|codes| Make::Codes(codes, ending))),
+    match next_word(&mut words).and_then(ending_of) {
+        Some(ending) => Ok(codes_in(heap, words)?.map(|codes| Make::Codes(codes, ending))),
         None => Ok(None),
     }
 }
 
-fn ring(heap: Global, mut words: SplitAsciiWhitespace<'_>) -> Result<Option<Make>, AllocError> {
-    match words.next() {
-        Some("text") => of_bytes(heap, words, Make::Text),
-        Some("bytes") => of_bytes(heap, words, Make::Bytes),
-        Some("codes") => of_codes(heap, words),
+#[tactic(auto, using(crate::proofs::Making::text_made, crate::proofs::Making::bytes_made))]
+fn ring(heap: Global, mut words: SplitAsciiWhitespace<'_>) -> Result<Option<Make>, AllocError>
+    ensures { IfOk result (λ told. AsksFor (codes "ring" ∷ to_come words.entry) told) }
+{
+    match next_word(&mut words) {
+        Some("text") => Ok(bytes_in(heap, words)?.map(Make::Text)),
+        Some("bytes") => Ok(bytes_in(heap, words)?.map(Make::Bytes)),
+        Some("codes") => codes_make(heap, words),
         _ => Ok(None),
     }
 }
 
-fn make_of(heap: Global, text: &str) -> Result<Option<Make>, AllocError> {
+#[tactic(auto, using(crate::proofs::Making::slice_made))]
+fn make_of(heap: Global, text: &str) -> Result<Option<Make>, AllocError>
+    ensures { IfOk result (λ told. AsksFor (drop 1 (words_of text.now)) told) }
+{
     let mut words = text.split_ascii_whitespace();
-    match (words.next(), words.next()) {
-        (_, Some("slice")) => of_bytes(heap, words, Make::Slice),
+    match (next_word(&mut words), next_word(&mut words)) {
+        (_, Some("slice")) => Ok(bytes_in(heap, words)?.map(Make::Slice)),
         (_, Some("ring")) => ring(heap, words),
         _ => Ok(None),
     }
 }
 
 /// The input that a line with the name `new` asks for, if it is well formed.
-pub fn parse_new(heap: Global, line: &[u8]) -> Result<Option<Make>, AllocError> {
+pub fn parse_new(heap: Global, line: &[u8]) -> Result<Option<Make>, AllocError>
+    ensures { IfOk result (λ told. IsNewLine line.now told) }
+{
     match from_utf8(line) {
         Ok(text) => make_of(heap, text),
         Err(_) => Ok(None),
