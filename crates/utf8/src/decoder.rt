@@ -80,6 +80,7 @@ fn width_of(first: u8) -> Option<usize>
     }
 }
 
+#[inline(never)]
 fn front(rest: &[u8]) -> Result<Option<(char, usize)>, IllFormed>
     ensures { Decodes rest.now (told result) }
 {
@@ -96,12 +97,18 @@ fn front(rest: &[u8]) -> Result<Option<(char, usize)>, IllFormed>
 }
 
 /// The character at a place of some bytes, and how many bytes it has. From their end on there is none.
+#[inline(always)]
 pub fn decode(text: &[u8], place: usize) -> Result<Option<(char, usize)>, IllFormed>
     ensures decodes { Decodes (drop place text.now) (told result) }
     ensures returns { Returns (drop place text.now) (told result) }
 {
     if place >= text.len() {
         return Ok(None);
+    }
+    // Most characters are ASCII: these are told with no call, and no slice is cut.
+    let byte = text[place];
+    if byte < 0x80 {
+        return Ok(Some((char::from(byte), 1)));
     }
     front(&text[place..])
 }
