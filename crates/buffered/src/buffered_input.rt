@@ -39,8 +39,7 @@ impl<S: Source> BufferedInput<S> {
         ensures takes { Takes true result (seen S.Source.ahead self.old) (seen S.Source.ahead self.new) }
         ensures feeds { Feeds S.Source.kept S.Source.ended self.old.store self.new.store }
     {
-        self.store.fill(1);
-        let taken = self.store.ring.pop();
+        let taken = self.store.take();
         self.store.fill(self.window);
         taken
     }

@@ -1,7 +1,7 @@
 //! Characters drawn from a source.
 
 ghost use Rattle.std.specs.Prelude.{◌≤◌};
-ghost use Rattle.buffered.specs.Store.{Fills, Feeds};
+ghost use Rattle.buffered.specs.Store.{Fills, Draws, Feeds};
 
 use crate::store::Store;
 use source::Source;
@@ -17,6 +17,26 @@ impl<S: Source> Store<S> {
             match self.source.step() {
                 Some(c) => self.ring.push(c),
                 None => self.met = true,
+            }
+        }
+    }
+
+    /// Takes the first character: one that is held, or else the next of the source, which then does not go through the ring.
+    pub(crate) fn take(&mut self) -> Option<char>
+        ensures draws { Draws S.Source.ahead result self.old self.new }
+        ensures feeds { Feeds S.Source.kept S.Source.ended self.old self.new }
+    {
+        if let Some(c) = self.ring.pop() {
+            return Some(c);
+        }
+        if self.met {
+            return None;
+        }
+        match self.source.step() {
+            Some(c) => Some(c),
+            None => {
+                self.met = true;
+                None
             }
         }
     }
