@@ -35,6 +35,7 @@ impl<S: Source> BufferedInput<S> {
     }
 
     /// Takes the first character, if one is ahead.
+    #[inline(always)]
     pub(crate) fn take(&mut self) -> Option<char>
         ensures takes { Takes true result (seen S.Source.ahead self.old) (seen S.Source.ahead self.new) }
         ensures feeds { Feeds S.Source.kept S.Source.ended self.old.store self.new.store }

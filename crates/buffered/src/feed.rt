@@ -22,6 +22,7 @@ impl<S: Source> Store<S> {
     }
 
     /// Takes the first character: one that is held, or else the next of the source, which then does not go through the ring.
+    #[inline(always)]
     pub(crate) fn take(&mut self) -> Option<char>
         ensures draws { Draws S.Source.ahead result self.old self.new }
         ensures feeds { Feeds S.Source.kept S.Source.ended self.old self.new }
