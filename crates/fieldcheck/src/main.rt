@@ -56,6 +56,20 @@ impl From<Refusal> for Stop {
     }
 }
 
+/// A program on the card.
+fn card(bytes: &[u8]) -> Result<StrInput<'_>, Refusal> {
+    let mut card = StrInput::new();
+    card.load(bytes)?;
+    Ok(card)
+}
+
+/// The same, from the cable.
+fn cable(bytes: &[u8]) -> Result<FallibleBufferedInput<ByteChars<'_>>, Refusal> {
+    let mut source = ByteChars::new();
+    source.load(bytes)?;
+    Ok(FallibleBufferedInput::new(source))
+}
+
 /// How many lines there are, and how many differ.
 #[derive(Clone, Copy)]
 struct Compared {
@@ -127,50 +141,33 @@ fn check_pulls(rt: &HostRuntime, chars: &[char]) -> Result<bool, Stop> {
 
 /// Whether a document start stands after so many characters, by card and by cable.
 fn start_by_both(bytes: &[u8], place: usize) -> Result<bool, Refusal> {
-    let mut card = StrInput::new();
-    card.load(bytes)?;
-    let mut source = ByteChars::new();
-    source.load(bytes)?;
-    let mut cable = FallibleBufferedInput::new(source);
+    let mut card = card(bytes)?;
+    let mut cable = cable(bytes)?;
     Ok(finds_start(&mut card, place) && finds_start(&mut cable, place))
 }
 
 /// Whether a `#` after so many characters is left, by card and by cable.
 fn hash_by_both(bytes: &[u8], place: usize) -> Result<bool, Refusal> {
-    let mut card = StrInput::new();
-    card.load(bytes)?;
-    let mut source = ByteChars::new();
-    source.load(bytes)?;
-    let mut cable = FallibleBufferedInput::new(source);
+    let mut card = card(bytes)?;
+    let mut cable = cable(bytes)?;
     Ok(leaves_hash(&mut card, place) && leaves_hash(&mut cable, place))
 }
 
 /// How many line ends the skips stop at, by card and by cable.
 fn line_ends_by_both(bytes: &[u8]) -> Result<(usize, usize), Refusal> {
-    let mut card = StrInput::new();
-    card.load(bytes)?;
-    let mut source = ByteChars::new();
-    source.load(bytes)?;
-    let mut cable = FallibleBufferedInput::new(source);
+    let mut card = card(bytes)?;
+    let mut cable = cable(bytes)?;
     Ok((count_line_ends(&mut card), count_line_ends(&mut cable)))
 }
 
 /// How many characters a text has.
 fn characters_in(heap: Global, bytes: &[u8]) -> Result<usize, Stop> {
-    let mut card = StrInput::new();
-    card.load(bytes)?;
-    let taken = read_out(heap, &mut card)?;
+    let taken = read_out(heap, &mut card(bytes)?)?;
     Ok(taken.chars.len())
 }
 
 fn line_ends_in(chars: &[char]) -> usize {
-    let mut count = 0usize;
-    for c in chars {
-        if is_breakz(*c) {
-            count = count.saturating_add(1);
-        }
-    }
-    count
+    chars.iter().filter(|c| is_breakz(**c)).count()
 }
 
 /// Line C: a marker as the last three bytes is found, a `#` glued to a setpoint is left, and no skip passes a line end.
@@ -184,7 +181,7 @@ fn check_scans(rt: &HostRuntime, bytes: &[u8], chars: &[char]) -> Result<bool, S
     let start = start_by_both(marked.as_slice(), chars.len().saturating_add(1))?;
     let place = setpoint_end(bytes);
     let glued = inserted(heap, bytes, place, COMMENT)?;
-    let before = characters_in(heap, &bytes[0..place.min(bytes.len())])?;
+    let before = characters_in(heap, &bytes[..place.min(bytes.len())])?;
     let left = hash_by_both(glued.as_slice(), before)?;
     let ends = line_ends_in(chars);
     let (by_card, by_cable) = line_ends_by_both(bytes)?;
@@ -204,13 +201,8 @@ fn check_scans(rt: &HostRuntime, bytes: &[u8], chars: &[char]) -> Result<bool, S
 
 fn show(rt: &HostRuntime, name: &str, bytes: &[u8]) -> Result<(), Stop> {
     let heap = rt.alloc();
-    let mut card = StrInput::new();
-    card.load(bytes)?;
-    let by_card = read_out(heap, &mut card)?;
-    let mut source = ByteChars::new();
-    source.load(bytes)?;
-    let mut cable = FallibleBufferedInput::new(source);
-    let by_cable = read_out(heap, &mut cable)?;
+    let by_card = read_out(heap, &mut card(bytes)?)?;
+    let by_cable = read_out(heap, &mut cable(bytes)?)?;
     println!(rt; "program: {name}")?;
     println!(rt; "line card cable")?;
     let compared = print_lines(rt, by_card.chars.as_slice(), by_cable.chars.as_slice())?;

@@ -95,9 +95,9 @@ abbrev pub Says : List (List ℕ) → Command → Type 0
 Says words command = Spelled words (forms command)
 
 -- the command that the words are, or none where they are no command's
-abbrev pub Reading : List (List ℕ) → Option Command → Type 0
-Reading words None = (command : Command) → Says words command → ⊥
-Reading words (Some command) = Says words command
+abbrev pub ReadsCommand : List (List ℕ) → Option Command → Type 0
+ReadsCommand words None = (command : Command) → Says words command → ⊥
+ReadsCommand words (Some command) = Says words command
 
 -- a word that begins with a number sign makes its line a comment
 abbrev pub is_comment : List ℕ → Bool
@@ -107,7 +107,7 @@ is_comment name = slice_index name 0 == 35
 pub record Asks (name : List ℕ) (words : List (List ℕ)) (command : Command) : Type 0 where
   pub comment : is_comment name ≡ true → command ≡ Command.Silent
   pub new : name ≡ codes "new" → command ≡ Command.New
-  pub known : is_comment name ≡ false → name ≢ codes "new" → (read : Option Command) × Reading (name ∷ words) read × (command ≡ unwrap_or read Command.Bad)
+  pub known : is_comment name ≡ false → name ≢ codes "new" → (read : Option Command) × ReadsCommand (name ∷ words) read × (command ≡ unwrap_or read Command.Bad)
 
 -- the command of a text with these words
 abbrev pub AsksOf : List (List ℕ) → Command → Type 0

@@ -1,7 +1,7 @@
 //! One line as a command.
 
 ghost use Rattle.std.specs.Prelude.{◌≡◌, ℕ, List, [], ◌∷◌, codes};
-ghost use Rattle.protocol.specs.Forms.{Count, Code, Reading, AsksOf, IsLine};
+ghost use Rattle.protocol.specs.Forms.{Count, Code, ReadsCommand, AsksOf, IsLine};
 ghost use Rattle.protocol.specs.Words.{words_of, to_come, TakesWord};
 ghost use Rattle.protocol.specs.Commands.{flowing_call, tabbed_call, chunk_call};
 
@@ -141,7 +141,7 @@ fn chunk_call(chunk: Chunk, count: usize, in_flow: bool) -> Call
 
 #[tactic(auto, using(crate::proofs::Naming::no_bare))]
 fn bare(name: &str) -> Option<Command>
-    ensures { Reading (name.now ∷ []) result }
+    ensures { ReadsCommand (name.now ∷ []) result }
 {
     if let Ok(step) = name.parse() {
         return Some(Call::Step(step).into());
@@ -158,7 +158,7 @@ fn bare(name: &str) -> Option<Command>
 
 #[tactic(auto, using(crate::proofs::Naming::no_with_one))]
 fn with_one(name: &str, word: &str) -> Option<Command>
-    ensures { Reading (name.now ∷ word.now ∷ []) result }
+    ensures { ReadsCommand (name.now ∷ word.now ∷ []) result }
 {
     if let Ok(counted) = name.parse() {
         return Some(Call::Counted(counted, count_of(word)?).into());
@@ -177,7 +177,7 @@ fn with_one(name: &str, word: &str) -> Option<Command>
 
 #[tactic(auto, using(crate::proofs::Naming::no_class))]
 fn class_command(name: &str, code: u32) -> Option<Command>
-    ensures { (word : List ℕ) → Code code word → Reading (codes "class" ∷ name.now ∷ word ∷ []) result }
+    ensures { (word : List ℕ) → Code code word → ReadsCommand (codes "class" ∷ name.now ∷ word ∷ []) result }
 {
     if let Ok(class) = name.parse() {
         return Some(Command::Class(class, code));
@@ -191,14 +191,14 @@ const MOST_ROOM: usize = 1_000_000;
 
 #[tactic(auto, using(crate::proofs::Naming::no_room))]
 fn room_command(size: usize, filled: usize) -> Option<Command>
-    ensures { (first second : List ℕ) → Count size first → Count filled second → Reading (codes "room" ∷ first ∷ second ∷ []) result }
+    ensures { (first second : List ℕ) → Count size first → Count filled second → ReadsCommand (codes "room" ∷ first ∷ second ∷ []) result }
 {
     (size <= MOST_ROOM).then_some(Command::Room(size, filled))
 }
 
 #[tactic(auto, using(crate::proofs::Naming::no_with_two))]
 fn with_two(name: &str, first: &str, second: &str) -> Option<Command>
-    ensures { Reading (name.now ∷ first.now ∷ second.now ∷ []) result }
+    ensures { ReadsCommand (name.now ∷ first.now ∷ second.now ∷ []) result }
 {
     if let Ok(chunk) = name.parse() {
         return Some(chunk_call(chunk, count_of(first)?, truth_of(second)?).into());
@@ -221,7 +221,7 @@ fn with_two(name: &str, first: &str, second: &str) -> Option<Command>
 
 #[tactic(auto, using(crate::proofs::Naming::no_with_three))]
 fn with_three(name: &str, first: &str, second: &str, third: &str) -> Option<Command>
-    ensures { Reading (name.now ∷ first.now ∷ second.now ∷ third.now ∷ []) result }
+    ensures { ReadsCommand (name.now ∷ first.now ∷ second.now ∷ third.now ∷ []) result }
 {
     match name {
         "next_3_are" => {
@@ -243,7 +243,7 @@ pub(crate) fn next_word<'a>(words: &mut SplitAsciiWhitespace<'a>) -> Option<&'a 
 /// The words of a line after its name, as a command takes four at most.
 #[tactic(auto, using(crate::proofs::Naming::no_with_four))]
 fn known(name: &str, mut words: SplitAsciiWhitespace<'_>) -> Option<Command>
-    ensures { Reading (name.now ∷ to_come words.entry) result }
+    ensures { ReadsCommand (name.now ∷ to_come words.entry) result }
 {
     match (
         next_word(&mut words),
