@@ -53,12 +53,8 @@ impl<'a> Lines<'a> {
     }
 }
 
-fn is_new(command: Command) -> bool {
-    matches!(command, Command::New)
-}
-
 /// Answers commands while there is no input. Tells the line that asks for the next new input, or that there is none.
-#[tactic(auto, using(crate::proofs::TakenLines::shorter, crate::proofs::TakenLines::left_on, crate::proofs::TakenLines::leaves))]
+#[tactic(auto, using(crate::proofs::TakenLines::shorter, crate::proofs::TakenLines::passed_none, crate::proofs::TakenLines::passed_more, crate::proofs::TakenLines::leaves_none, crate::proofs::TakenLines::leaves_some))]
 pub fn idle<'a>(
     rt: &impl Print,
     lines: &mut Lines<'a>,
@@ -67,11 +63,10 @@ pub fn idle<'a>(
     ensures { IfOk result (λ asked. Leaves lines.old.rest.now asked lines.new.rest.now) }
 {
     while let Some(line) = lines.take_line() {
-        let command = parse(line);
-        if is_new(command) {
-            return Ok(Some(line));
+        match parse(line) {
+            Command::New => return Ok(Some(line)),
+            command => desk.aside(command)?,
         }
-        desk.aside(command)?;
         desk.flush_if_large(rt)?;
     }
     Ok(None)
@@ -95,7 +90,7 @@ fn settled(done: Result<(), AllocError>, rt: &impl Print, desk: &mut Desk) -> io
 }
 
 /// Answers commands with an input, and at last closes the reading that is open. Tells the line that asks for the next new input, or that there is none.
-#[tactic(auto, using(crate::proofs::TakenLines::shorter, crate::proofs::TakenLines::left_on, crate::proofs::TakenLines::leaves))]
+#[tactic(auto, using(crate::proofs::TakenLines::shorter, crate::proofs::TakenLines::passed_none, crate::proofs::TakenLines::passed_more, crate::proofs::TakenLines::leaves_none, crate::proofs::TakenLines::leaves_some))]
 pub fn serve<'a, 'b, I: Scan + BorrowedInput<'a>>(
     rt: &impl Print,
     input: &mut I,
@@ -109,10 +104,10 @@ pub fn serve<'a, 'b, I: Scan + BorrowedInput<'a>>(
         let Some(line) = lines.take_line() else {
             break Ok(None);
         };
-        let command = parse(line);
-        if is_new(command) {
-            break Ok(Some(line));
-        }
+        let command = match parse(line) {
+            Command::New => break Ok(Some(line)),
+            command => command,
+        };
         let (done, next) = turn(input, command, held, desk);
         held = next;
         if let Err(e) = settled(done, rt, desk) {

@@ -38,6 +38,7 @@ fn list<'b>(
     }
 }
 
+#[tactic(auto, using(crate::proofs::Turns::fewer))]
 fn run(rt: &HostRuntime, text: &[u8]) -> io::Result<()> {
     let mut desk = Desk::new(rt.alloc())?;
     let mut lines = Lines::new(text);
