@@ -1,6 +1,6 @@
 //! What a player has beside its input: rooms, and the lines that it has yet to hand out.
 
-ghost use Rattle.std.specs.Prelude.{◌≡◌, ℕ, List, [], ◌++◌, string_bytes, OnOk};
+ghost use Rattle.std.specs.Prelude.{◌≡◌, ℕ, ◌<◌, ◌≤◌, List, [], ◌++◌, length, string_bytes, OnOk};
 ghost use Rattle.player.specs.Aside.{AsideLine};
 ghost use Rattle.player.specs.Meaning.{line_of};
 
@@ -71,7 +71,11 @@ impl Desk {
     }
 
     /// Hands out the lines that wait once they are many.
-    pub fn flush_if_large(&mut self, rt: &impl Print) -> io::Result<()> {
+    pub fn flush_if_large(&mut self, rt: &impl Print) -> io::Result<()>
+        ensures few { OnOk result (length (string_bytes self.old.out) < 65536 → string_bytes self.new.out ≡ string_bytes self.old.out) }
+        ensures many { OnOk result (65536 ≤ length (string_bytes self.old.out) → string_bytes self.new.out ≡ []) }
+        ensures rooms { self.new.rooms ≡ self.old.rooms }
+    {
         if self.out.len() < LARGE {
             return Ok(());
         }
