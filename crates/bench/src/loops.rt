@@ -16,7 +16,7 @@ pub struct Seen {
 }
 
 impl Seen {
-    pub fn new() -> Seen {
+    pub(crate) fn new() -> Seen {
         Seen { chars: 0, sum: 0 }
     }
 
@@ -124,7 +124,7 @@ fn read_chars<I: Scan>(input: &mut I, window: usize) -> Seen {
 }
 
 /// The loop of a number. Any other number reads nothing.
-pub fn run<I: Scan>(task: u32, input: &mut I, room: &mut [u8]) -> Seen {
+pub(crate) fn run<I: Scan>(task: u32, input: &mut I, room: &mut [u8]) -> Seen {
     match task {
         1 => skip_lines(input),
         2 => fetch_lines(input, room),
