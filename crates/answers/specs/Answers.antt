@@ -65,6 +65,10 @@ abbrev pub asked_text : Option Fault → List ℕ
 asked_text None = codes "none"
 asked_text (Some fault) = fault_text fault
 
+abbrev pub steps_text : Option ℕ → List ℕ
+steps_text None = codes "none"
+steps_text (Some n) = decimal n
+
 abbrev pub flags_text : Bool → Bool → List ℕ
 flags_text tabs spaces = truth_name tabs ++ (codes " " ++ truth_name spaces)
 
@@ -83,6 +87,7 @@ answer_text (Answer.Blanks n tabs spaces) = decimal n ++ (codes " " ++ flags_tex
 answer_text (Answer.ToEol n tabs spaces) = decimal n ++ (codes " ok " ++ flags_text tabs spaces)
 answer_text (Answer.Unseparated n) = decimal n ++ (codes " err " ++ unseparated_text)
 answer_text (Answer.Chunk stopped n) = truth_name stopped ++ (codes " " ++ decimal n)
+answer_text (Answer.Steps steps) = steps_text steps
 
 -- of a chunk, whether it stopped; the count
 abbrev pub taken_text : Option Bool → ℕ → List ℕ

@@ -27,6 +27,8 @@ pub enum Answer {
     Unseparated(usize),
     /// Whether a chunk stopped before its count, and how many it took.
     Chunk(bool, usize),
+    /// How often a source was stepped, if one is below.
+    Steps(Option<u64>),
 }
 
 impl From<Result<bool, Refusal>> for Answer {
@@ -124,7 +126,9 @@ impl fmt::Display for Answer {
             Answer::Done => f.write_str("ok"),
             Answer::Number(n) => write!(f, "{n}"),
             Answer::Truth(truth) => write!(f, "{truth}"),
-            Answer::Nothing | Answer::Next(None) | Answer::Asked(None) => f.write_str("none"),
+            Answer::Nothing | Answer::Next(None) | Answer::Asked(None) | Answer::Steps(None) => {
+                f.write_str("none")
+            }
             Answer::Next(Some(c)) => Code(c).fmt(f),
             Answer::Refused(refusal) => Refused(refusal).fmt(f),
             Answer::Asked(Some(fault)) => Told(fault).fmt(f),
@@ -133,6 +137,7 @@ impl fmt::Display for Answer {
             Answer::ToEol(n, tabs, spaces) => write!(f, "{n} ok {tabs} {spaces}"),
             Answer::Unseparated(n) => write!(f, "{n} err CommentNotSeparated"),
             Answer::Chunk(stopped, n) => write!(f, "{stopped} {n}"),
+            Answer::Steps(Some(n)) => write!(f, "{n}"),
         }
     }
 }

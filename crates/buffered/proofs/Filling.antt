@@ -4,14 +4,16 @@ use Rattle.error.specs.Numbers.{Ending}
 use Rattle.input.proofs.Keeping.{never}
 use Rattle.buffered.specs.declared.ring.Ring.{Ring}
 use Rattle.buffered.specs.declared.store.Store.{Store}
-use Rattle.buffered.specs.Store.{queue, to_come, all_of, Fills, Feeds}
+use Rattle.buffered.specs.Store.{queue, to_come, all_of, holding, Frugal, Fills, Feeds}
 
 module _ {S : Type 0} (ahead : S → List ℕ) (kept : S → Ending) (ended : S → Bool) (upto : ℕ) (x : Store S) where
   pub record Filling (y : Store S) : Type 0 where
     pub same : all_of ahead y ≡ all_of ahead x
-    pub grows : length (queue x.ring) ≤ length (queue y.ring)
+    pub grows : holding x ≤ holding y
+    pub few : Frugal 0 upto x y
     pub met : y.met ≡ true → x.met || ltb (length (all_of ahead x)) upto ≡ true
     pub unmet : y.met ≡ false → x.met ≡ false
+    pub still : x.met ≡ true → y.source ≡ x.source
     pub feeds : Feeds kept ended x y
 
   pub fill_none : Filling x
@@ -19,9 +21,11 @@ module _ {S : Type 0} (ahead : S → List ℕ) (kept : S → Ending) (ended : S 
       record {
         same = refl;
         grows = omega arith;
+        few = omega arith;
         met = λ t. ap (λ b. b || ltb (length (all_of ahead x)) upto) t;
         unmet = λ t. t;
-        feeds = record { stays = λ m. m; keeps = refl; ends = λ h m. h m; still = λ _. refl };
+        still = λ _. refl;
+        feeds = record { stays = λ m. m; keeps = refl; ends = λ h m. h m };
       }
 
   -- nothing was drawn if the end was met before
@@ -31,9 +35,9 @@ module _ {S : Type 0} (ahead : S → List ℕ) (kept : S → Ending) (ended : S 
   all_open : (y : Store S) → y.met ≡ false → all_of ahead y ≡ queue y.ring ++ ahead y.source
   all_open y un = ap (λ (b : Bool). queue y.ring ++ cond b [] (ahead y.source)) un
 
-  pub fill_more : (y : Store S) (c : ℕ) (ring : Ring) (t : S) → Filling y → y.met ≡ false → queue ring ≡ queue y.ring ++ (c ∷ []) → ahead y.source ≡ c ∷ ahead t
+  pub fill_more : (y : Store S) (c : ℕ) (ring : Ring) (t : S) → Filling y → y.met ≡ false → holding y < upto → queue ring ≡ queue y.ring ++ (c ∷ []) → ahead y.source ≡ c ∷ ahead t
       → kept t ≡ kept y.source → Filling (record { source = t; ring = ring; met = y.met })
-  fill_more y c ring t i un q a k =
+  fill_more y c ring t i un lt q a k =
       record {
         same =
             ap (λ (b : Bool). queue ring ++ cond b [] (ahead t)) un ∙ ap (λ xs. xs ++ ahead t) q
@@ -42,22 +46,18 @@ module _ {S : Type 0} (ahead : S → List ℕ) (kept : S → Ending) (ended : S 
             ∙ sym (all_open y un)
             ∙ i.same;
         grows = omega (arith, i.grows, ap length q ∙ length-append (queue y.ring) (c ∷ []));
+        few = omega (arith, lt, ap length q ∙ length-append (queue y.ring) (c ∷ []));
         met = i.met;
         unmet = i.unmet;
-        feeds =
-            record {
-              stays = i.feeds.stays;
-              keeps = k ∙ i.feeds.keeps;
-              ends = λ h m. absurd (never (sym un ∙ m));
-              still = unmoved y t i un;
-            };
+        still = unmoved y t i un;
+        feeds = record { stays = i.feeds.stays; keeps = k ∙ i.feeds.keeps; ends = λ h m. absurd (never (sym un ∙ m)) };
       }
 
   or_true : (a b : Bool) → b ≡ true → a || b ≡ true
   or_true true b h = refl
   or_true false b h = h
 
-  pub fill_end : (y : Store S) (t : S) → Filling y → y.met ≡ false → length (queue y.ring) < upto → ahead y.source ≡ [] → kept t ≡ kept y.source
+  pub fill_end : (y : Store S) (t : S) → Filling y → y.met ≡ false → holding y < upto → ahead y.source ≡ [] → kept t ≡ kept y.source
       → ended t ≡ true → Filling (record { source = t; ring = y.ring; met = true })
   fill_end y t i un lt none k e =
       let all : queue y.ring ++ [] ≡ all_of ahead x = ap (λ xs. queue y.ring ++ xs) (sym none) ∙ sym (all_open y un) ∙ i.same in
@@ -65,16 +65,18 @@ module _ {S : Type 0} (ahead : S → List ℕ) (kept : S → Ending) (ended : S 
       record {
         same = all;
         grows = i.grows;
+        few = i.few;
         met = λ _. or_true x.met _ (lt-ltb _ _ few);
         unmet = λ t. absurd (never (sym t));
-        feeds = record { stays = λ _. refl; keeps = k ∙ i.feeds.keeps; ends = λ _ _. e; still = unmoved y t i un };
+        still = unmoved y t i un;
+        feeds = record { stays = λ _. refl; keeps = k ∙ i.feeds.keeps; ends = λ _ _. e };
       }
 
-  pub fill_all : (y : Store S) → Filling y → (y.met ≡ false → upto ≤ length (queue y.ring)) → Fills ahead upto x y
+  pub fill_all : (y : Store S) → Filling y → (y.met ≡ false → upto ≤ holding y) → Fills ahead upto x y
   fill_all y i full = go y.met refl
     where
       go : (b : Bool) → y.met ≡ b → Fills ahead upto x y
-      go true m = record { same = i.same; met = m ∙ sym (i.met m); full = λ _. m; grows = i.grows }
+      go true m = record { same = i.same; met = m ∙ sym (i.met m); full = λ _. m; grows = i.grows; few = i.few; still = i.still }
       go false m =
           let held = full m in
           let many : upto ≤ length (all_of ahead x) = omega (arith, ap length (sym i.same) ∙ length-append (queue y.ring) (to_come ahead y)) in
@@ -83,4 +85,6 @@ module _ {S : Type 0} (ahead : S → List ℕ) (kept : S → Ending) (ended : S 
             met = m ∙ sym (ap (λ b. b || ltb (length (all_of ahead x)) upto) (i.unmet m) ∙ le-ltb _ _ many);
             full = λ lt. absurd (omega arith);
             grows = i.grows;
+            few = i.few;
+            still = i.still;
           }

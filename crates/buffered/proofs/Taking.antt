@@ -3,18 +3,26 @@ use Rattle.std.proofs.Common.{◌≡◌, ℕ, ◌<◌, Bool, true, false, cond, 
 use lib.Dec.{eqb-suc-zero}
 use Rattle.error.specs.Numbers.{Ending, clean}
 use Rattle.char_traits.specs.Chars.{breakz}
-use Rattle.input.specs.View.{View, Keeps}
+use Rattle.input.specs.View.{View, Keeps, exactly}
 use Rattle.input.specs.Calls.{none_left, first_of, first_in_line}
 use Rattle.input.proofs.Keeping.{never, one_is_none}
 use Rattle.buffered.specs.declared.ring.Ring.{Ring}
 use Rattle.buffered.specs.declared.store.Store.{Store}
-use Rattle.buffered.specs.declared.buffered.BufferedInput.{BufferedInput}
-use Rattle.buffered.specs.Store.{queue, to_come, all_of, Fills, Feeds}
-use Rattle.buffered.specs.Buffered.{at_end}
+use Rattle.buffered.specs.Store.{queue, to_come, all_of, holding, Fills, Feeds}
+use Rattle.buffered.specs.Buffered.{ring_manner, at_end}
 use Rattle.buffered.specs.Rings.{held_length}
 
-abbrev pub view_of : {S : Type 0} → (S → List ℕ) → Store S → ℕ → View
-view_of ahead x window = record { ahead = all_of ahead x; window = window; ending = clean; met = x.met; told = false }
+abbrev pub view_of : {S : Type 0} → (S → List ℕ) → Store S → ℕ → View S
+view_of ahead x window =
+    record {
+      ahead = all_of ahead x;
+      window = window;
+      ending = clean;
+      met = x.met;
+      told = false;
+      manner = ring_manner;
+      held = x.source;
+    }
 
 or_true : (b : Bool) → b || true ≡ true
 or_true true = refl
@@ -35,16 +43,15 @@ module _ {S : Type 0} (ahead : S → List ℕ) (kept : S → Ending) (ended : S 
         stays = λ m. g.stays (f.stays m);
         keeps = g.keeps ∙ f.keeps;
         ends = λ h m. g.ends (f.ends h) m;
-        still = λ m. g.still (f.stays m) ∙ f.still m;
       }
 
   -- the same source beside another ring
   pub beside : (x : Store S) (ring : Ring) → Feeds kept ended x (record { source = x.source; ring = ring; met = x.met })
-  beside x ring = record { stays = λ m. m; keeps = refl; ends = λ h m. h m; still = λ _. refl }
+  beside x ring = record { stays = λ m. m; keeps = refl; ends = λ h m. h m }
 
   -- a ring that is as long as its window, or has met its end, stays so
-  pub stays_filled : (upto window : ℕ) (x y : Store S) → (length (queue x.ring) < window → x.met ≡ true) → Fills ahead upto x y
-      → length (queue y.ring) < window → y.met ≡ true
+  pub stays_filled : (upto window : ℕ) (x y : Store S) → (holding x < window → x.met ≡ true) → Fills ahead upto x y
+      → holding y < window → y.met ≡ true
   stays_filled upto window x y filled f h = f.met ∙ or_left x.met _ (filled (omega (arith, f.grows)))
 
   module _ (x y : Store S) (one : Fills ahead 1 x y) where
@@ -69,11 +76,14 @@ module _ {S : Type 0} (ahead : S → List ℕ) (kept : S → Ending) (ended : S 
     widen false false false h = refl
 
     pub keeps_next : (window : ℕ) → (length (all_of ahead x) < window → x.met ≡ true)
-        → Keeps true (none_left (all_of ahead x)) 0 (view_of ahead x window) (view_of ahead y window)
+        → Keeps (none_left (all_of ahead x)) (exactly 0) (view_of ahead x window) (view_of ahead y window)
     keeps_next window waits =
         record {
+          manner = refl;
           ending = refl;
           window = omega arith;
+          still = one.still;
+          steady = λ _. omega arith;
           stays = λ m. looked_next ∙ or_left x.met _ m;
           meets = λ e. looked_next ∙ ap (λ b. x.met || b) e ∙ or_true x.met;
           narrow = λ _. omega arith;
@@ -83,44 +93,17 @@ module _ {S : Type 0} (ahead : S → List ℕ) (kept : S → Ending) (ended : S 
               (λ t. let lt = ltb-true _ _ t in waits (omega (arith, ap length one.same)));
         }
 
--- the end is seen exactly if nothing is held and the source has ended
-module _ {S : Type 0} (ahead : S → List ℕ) where
-  pub z_met : (x : Store S) → x.met ≡ true → none_left (all_of ahead x) ≡ none_left (queue x.ring)
-  z_met x m = ap (λ (b : Bool). none_left (queue x.ring ++ cond b [] (ahead x.source))) m ∙ ap none_left (append_none (queue x.ring))
-    where
-      append_none : (xs : List ℕ) → xs ++ [] ≡ xs
-      append_none [] = refl
-      append_none (c ∷ xs) = ap (λ r. c ∷ r) (append_none xs)
-
-  pub z_held : (x : Store S) → 0 < length (queue x.ring) → none_left (all_of ahead x) ≡ false
-  z_held x h = go (queue x.ring) h
-    where
-      go : (q : List ℕ) → 0 < length q → none_left (q ++ to_come ahead x) ≡ false
-      go [] l = absurd (omega arith)
-      go (c ∷ q) l = refl
-
 pub none_length : (q : List ℕ) (n : ℕ) → length q ≡ n → eqb n 0 ≡ none_left q
 none_length [] n e = ap (λ k. eqb k 0) (sym e)
 none_length (c ∷ q) n e = ap (λ k. eqb k 0) (sym e) ∙ eqb-suc-zero (length q)
 
 -- the end is told, by whether the ending was met
-pub end_when_met : {S : Type 0} (x : BufferedInput S) → x.store.met ≡ true → eqb x.store.ring.len 0 ≡ at_end x
+pub end_when_met : {S : Type 0} (x : Store S) → x.met ≡ true → eqb x.ring.len 0 ≡ at_end x
 end_when_met x m =
-    let ring = x.store.ring in
-    none_length (queue ring) ring.len (held_length ring.places ring.head ring.len) ∙ ap (λ (b : Bool). b && none_left (queue ring)) (sym m)
+    none_length (queue x.ring) x.ring.len (held_length x.ring.places x.ring.head x.ring.len) ∙ ap (λ (b : Bool). b && none_left (queue x.ring)) (sym m)
 
-pub end_when_unmet : {S : Type 0} (x : BufferedInput S) → x.store.met ≡ false → false ≡ at_end x
-end_when_unmet x m = ap (λ (b : Bool). b && none_left (queue x.store.ring)) (sym m)
-
-pub z_when_met : {S : Type 0} (ahead : S → List ℕ) (x : BufferedInput S) → x.store.met ≡ true → eqb x.store.ring.len 0 ≡ none_left (all_of ahead x.store)
-z_when_met ahead x m =
-    let ring = x.store.ring in
-    none_length (queue ring) ring.len (held_length ring.places ring.head ring.len) ∙ sym (z_met ahead x.store m)
-
-pub z_when_unmet : {S : Type 0} (ahead : S → List ℕ) (x : BufferedInput S) → x.store.met ≡ false → 0 < x.window → false ≡ none_left (all_of ahead x.store)
-z_when_unmet ahead x m w =
-    let some : length (queue x.store.ring) < x.window → ⊥ = λ h. never (sym m ∙ x.filled h) in
-    sym (z_held ahead x.store (omega arith))
+pub end_when_unmet : {S : Type 0} (x : Store S) → x.met ≡ false → false ≡ at_end x
+end_when_unmet x m = ap (λ (b : Bool). b && none_left (queue x.ring)) (sym m)
 
 -- nothing is read at the end of a line
 pub line_break : (a : List ℕ) (r : Option ℕ) (c : ℕ) → r ≡ first_of a → r ≡ Some c → breakz c ≡ true → None ≡ first_in_line a

@@ -1,12 +1,10 @@
 //! The ring as an input.
 
-ghost use Rattle.std.specs.Prelude.{◌≡◌, ◌<◌, true, false, None};
-ghost use Rattle.error.specs.Numbers.{outcome};
-ghost use Rattle.input.specs.View.{New};
-ghost use Rattle.input.specs.Calls.{none_left, Looks, Reads, ReadsInLine, Skips, Tells, Takes, Asks};
-ghost use Rattle.input.specs.Tests.{flag, mark, Matches, Marks};
-ghost use Rattle.buffered.specs.Store.{Feeds};
-ghost use Rattle.buffered.specs.Buffered.{seen, ring_shows, at_end, ring_matches, ring_marks, ring_sound, ring_faithful, sixteen};
+ghost use Rattle.std.specs.Prelude.{◌≡◌, ◌≤◌, min, max, true, false, cond, [], is_some};
+ghost use Rattle.input.specs.View.{Fresh};
+ghost use Rattle.input.specs.Calls.{Looks, Reads, ReadsInLine, Skips, Tells, Takes, Asks, none_left, taken_by};
+ghost use Rattle.buffered.specs.Store.{queue, holding, Feeds, Frugal};
+ghost use Rattle.buffered.specs.Buffered.{ring_making, seen, ring_shown, ring_sound, ring_faithful, sixteen};
 
 use crate::buffered::BufferedInput;
 use crate::ring::Ring;
@@ -22,9 +20,9 @@ const PLACES: usize = 16;
 impl<S: Source> BufferedInput<S> {
     /// A ring over a source: all of the source's characters are ahead.
     pub fn new(source: S) -> BufferedInput<S>
-        ensures ahead { (seen S.Source.ahead result).ahead ≡ S.Source.ahead source }
-        ensures fresh { New true (seen S.Source.ahead result) }
+        ensures fresh { Fresh (ring_making S.ahead source) (seen S.ahead result) }
         ensures source { result.store.source ≡ source }
+        ensures none { queue result.store.ring ≡ [] }
     {
         let store = Store {
             source,
@@ -34,11 +32,19 @@ impl<S: Source> BufferedInput<S> {
         BufferedInput { store, window: 0 }
     }
 
+    /// The source behind the ring, to look at.
+    pub fn source(&self) -> &S
+        ensures { result.now ≡ self.now.store.source }
+    {
+        &self.store.source
+    }
+
     /// Takes the first character, if one is ahead.
     #[inline(always)]
     pub(crate) fn take(&mut self) -> Option<char>
-        ensures takes { Takes true result (seen S.Source.ahead self.old) (seen S.Source.ahead self.new) }
-        ensures feeds { Feeds S.Source.kept S.Source.ended self.old.store self.new.store }
+        ensures takes { Takes result (seen S.ahead self.old) (seen S.ahead self.new) }
+        ensures feeds { Feeds S.kept S.ended self.old.store self.new.store }
+        ensures few { Frugal 1 self.old.window self.old.store self.new.store }
     {
         let taken = self.store.take();
         self.store.fill(self.window);
@@ -47,23 +53,25 @@ impl<S: Source> BufferedInput<S> {
 }
 
 impl<S: Source> Input for BufferedInput<S> {
-    ghost view = { seen S.Source.ahead };
+    ghost Held = { S };
 
-    ghost shown = { ring_shows };
+    ghost view = { seen S.ahead };
 
-    ghost most = { 16 };
+    ghost shown = { ring_shown };
 
-    ghost prompt = { true };
+    ghost most = { λ _. 16 };
 
-    ghost sound = { ring_sound S.Source.ahead S.Source.characters S.Source.short };
+    ghost sound = { ring_sound S.ahead S.characters S.short };
 
-    ghost faithful = { ring_faithful S.Source.ahead };
+    ghost faithful = { ring_faithful S.ahead };
 
-    ghost wide = { sixteen };
+    ghost wide = { λ _. sixteen };
 
     fn lookahead(&mut self, count: usize)
-        ensures looks { Looks true 16 count (seen S.Source.ahead self.old) (seen S.Source.ahead self.new) }
-        ensures feeds { Feeds S.Source.kept S.Source.ended self.old.store self.new.store }
+        ensures looks { Looks count (seen S.ahead self.old) (seen S.ahead self.new) }
+        ensures most { min count 16 ≤ self.new.window }
+        ensures feeds { Feeds S.kept S.ended self.old.store self.new.store }
+        ensures few { Frugal 0 self.new.window self.old.store self.new.store }
     {
         let window = self.window.max(count.min(PLACES));
         self.store.fill(window);
@@ -79,15 +87,20 @@ impl<S: Source> Input for BufferedInput<S> {
     }
 
     fn raw_read_ch(&mut self) -> char
-        ensures reads { Reads true result (seen S.Source.ahead self.old) (seen S.Source.ahead self.new) }
-        ensures feeds { Feeds S.Source.kept S.Source.ended self.old.store self.new.store }
+        ensures reads { Reads result (seen S.ahead self.old) (seen S.ahead self.new) }
+        ensures feeds { Feeds S.kept S.ended self.old.store self.new.store }
+        ensures few { Frugal 1 self.old.window self.old.store self.new.store }
     {
         self.take().unwrap_or('\0')
     }
 
     fn raw_read_non_breakz_ch(&mut self) -> Option<char>
-        ensures reads { ReadsInLine true result (seen S.Source.ahead self.old) (seen S.Source.ahead self.new) }
-        ensures feeds { Feeds S.Source.kept S.Source.ended self.old.store self.new.store }
+        ensures reads { ReadsInLine result (seen S.ahead self.old) (seen S.ahead self.new) }
+        ensures feeds { Feeds S.kept S.ended self.old.store self.new.store }
+        ensures few { Frugal (taken_by result) (cond (is_some result) self.old.window 1)
+            self.old.store self.new.store }
+        ensures keeps { is_some result ≡ false → none_left (seen S.ahead self.new).ahead ≡ false
+            → 1 ≤ holding self.new.store }
     {
         self.store.fill(1);
         match self.store.ring.first() {
@@ -97,57 +110,58 @@ impl<S: Source> Input for BufferedInput<S> {
     }
 
     fn skip(&mut self)
-        ensures skips { Skips true 1 (seen S.Source.ahead self.old) (seen S.Source.ahead self.new) }
-        ensures feeds { Feeds S.Source.kept S.Source.ended self.old.store self.new.store }
+        ensures skips { Skips 1 (seen S.ahead self.old) (seen S.ahead self.new) }
+        ensures feeds { Feeds S.kept S.ended self.old.store self.new.store }
+        ensures few { Frugal 1 self.old.window self.old.store self.new.store }
     {
         let _ = self.take();
     }
 
+    #[tactic(auto, using(input::proofs::Skipping::skips_none))]
     fn skip_n(&mut self, count: usize)
-        ensures skips { Skips true count (seen S.Source.ahead self.old) (seen S.Source.ahead self.new) }
-        ensures feeds { Feeds S.Source.kept S.Source.ended self.old.store self.new.store }
+        ensures skips { Skips count (seen S.ahead self.old) (seen S.ahead self.new) }
+        ensures feeds { Feeds S.kept S.ended self.old.store self.new.store }
+        ensures few { Frugal count self.old.window self.old.store self.new.store }
     {
-        for _ in 0..count {
+        let mut left = count;
+        while left > 0 {
             if self.take().is_none() {
                 return;
             }
+            left -= 1;
         }
     }
 
     fn next_ch(&mut self) -> Option<char>
-        ensures tells { Tells true result (seen S.Source.ahead self.old) (seen S.Source.ahead self.new) }
-        ensures feeds { Feeds S.Source.kept S.Source.ended self.old.store self.new.store }
+        ensures tells { Tells result (seen S.ahead self.old) (seen S.ahead self.new) }
+        ensures feeds { Feeds S.kept S.ended self.old.store self.new.store }
+        ensures few { Frugal 0 1 self.old.store self.new.store }
+        ensures keeps { is_some result ≡ true → 1 ≤ holding self.new.store }
     {
         self.store.fill(1);
         self.store.ring.first()
     }
 
-    fn peek_nth(&self, n: usize) -> char {
+    fn peek_nth(&self, n: usize) -> char
+        ensures shows { result ≡ (ring_shown self.now).at n }
+        ensures past { max self.now.window 1 ≤ n → result ≡ 0 }
+    {
         self.store.ring.at(n)
     }
 
-    #[tactic(auto, using(crate::proofs::Taking::end_when_met, crate::proofs::Taking::end_when_unmet, crate::proofs::Taking::z_when_met, crate::proofs::Taking::z_when_unmet))]
-    fn next_is_z(&self) -> bool
-        ensures windowed { 0 < self.now.window → result ≡ none_left (seen S.Source.ahead self.now).ahead }
-        ensures ended { result ≡ at_end self.now }
-    {
+    #[tactic(auto, using(crate::proofs::Taking::end_when_met, crate::proofs::Taking::end_when_unmet))]
+    fn next_is_z(&self) -> bool {
         self.store.met && self.store.ring.len == 0
     }
 
-    fn next_are(&self, wanted: &[char]) -> Result<bool, Refusal>
-        ensures matches { Matches wanted.now self.now.window (ring_shows self.now) (outcome flag result) }
-        ensures exact { outcome flag result ≡ ring_matches wanted.now self.now }
-    {
+    fn next_are(&self, wanted: &[char]) -> Result<bool, Refusal> {
         if self.window < wanted.len() {
             return Err(Refusal::NarrowWindow);
         }
         Ok(self.store.ring.begins_with(wanted))
     }
 
-    fn next_marker(&self) -> Result<Option<Marker>, Refusal>
-        ensures marks { Marks self.now.window (ring_shows self.now) (outcome mark result) }
-        ensures exact { outcome mark result ≡ ring_marks self.now }
-    {
+    fn next_marker(&self) -> Result<Option<Marker>, Refusal> {
         if self.window < 4 {
             return Err(Refusal::NarrowWindow);
         }
@@ -155,8 +169,8 @@ impl<S: Source> Input for BufferedInput<S> {
     }
 
     fn take_source_error(&mut self) -> Option<Fault>
-        ensures asks { Asks true result (seen S.Source.ahead self.old) (seen S.Source.ahead self.new) }
-        ensures feeds { Feeds S.Source.kept S.Source.ended self.old.store self.new.store }
+        ensures asks { Asks result (seen S.ahead self.old) (seen S.ahead self.new) }
+        ensures rests { self.new ≡ self.old }
     {
         None
     }

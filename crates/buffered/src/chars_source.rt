@@ -1,23 +1,30 @@
 //! The adapter as a source.
 
-ghost use Rattle.std.specs.Prelude.{is_some};
+ghost use Rattle.std.specs.Prelude.{◌≡◌, true, is_some, None};
+ghost use Rattle.source.specs.Steps.{Gives};
 ghost use Rattle.buffered.specs.Chars.{chars_ahead, kept_by, chars_characters, chars_short};
 
 use crate::chars::FallibleChars;
 use source::{FallibleSource, Source};
 
 impl<F: FallibleSource> Source for FallibleChars<F> {
-    ghost ahead = { chars_ahead F.FallibleSource.ahead };
+    ghost ahead = { chars_ahead F.ahead };
 
-    ghost kept = { kept_by F.FallibleSource.ending };
+    ghost kept = { kept_by F.ending };
 
     ghost ended = { λ s. is_some s.ended };
 
-    ghost characters = { chars_characters F.FallibleSource.ahead F.FallibleSource.characters };
+    ghost characters = { chars_characters F.ahead F.characters };
 
-    ghost short = { chars_short F.FallibleSource.ahead F.FallibleSource.short };
+    ghost short = { chars_short F.ahead F.short };
 
-    fn step(&mut self) -> Option<char> {
+    // it rests once it has ended: the source below is not stepped again
+    fn step(&mut self) -> Option<char>
+        ensures gives { Gives result (chars_ahead F.ahead self.old) (chars_ahead F.ahead self.new) }
+        ensures keeps { kept_by F.ending self.new ≡ kept_by F.ending self.old }
+        ensures ends { result ≡ None → is_some self.new.ended ≡ true }
+        ensures rests { is_some self.old.ended ≡ true → self.new ≡ self.old }
+    {
         if self.ended.is_some() {
             return None;
         }

@@ -1,12 +1,11 @@
 //! The ring over a failing source as an input. It is the only ring over the adapter, and its ending is the failing source's.
 
-ghost use Rattle.std.specs.Prelude.{◌≡◌, ◌<◌, true, false};
-ghost use Rattle.input.specs.View.{New};
-ghost use Rattle.error.specs.Numbers.{outcome};
-ghost use Rattle.input.specs.Tests.{flag, mark, Matches, Marks};
-ghost use Rattle.input.specs.Calls.{none_left, Looks, Reads, ReadsInLine, Skips, Tells, Asks};
-ghost use Rattle.buffered.specs.Buffered.{ring_shows, at_end, ring_matches, ring_marks, sixteen};
-ghost use Rattle.buffered.specs.Fallible.{seen_failing, failing_sound, failing_faithful, Still};
+ghost use Rattle.std.specs.Prelude.{◌≡◌, ◌≤◌, min, max, true, false, cond, [], is_some, None};
+ghost use Rattle.input.specs.View.{Fresh};
+ghost use Rattle.input.specs.Calls.{Looks, Reads, ReadsInLine, Skips, Tells, Asks, none_left, taken_by};
+ghost use Rattle.buffered.specs.Store.{queue, holding, Frugal};
+ghost use Rattle.buffered.specs.Buffered.{ring_shown, sixteen};
+ghost use Rattle.buffered.specs.Fallible.{failing_making, seen_failing, failing_sound, failing_faithful};
 
 use crate::buffered::BufferedInput;
 use crate::chars::FallibleChars;
@@ -18,9 +17,10 @@ use source::FallibleSource;
 impl<F: FallibleSource> FallibleBufferedInput<F> {
     /// A ring over a failing source: all of its characters are ahead, and its ending is the source's.
     pub fn new(source: F) -> FallibleBufferedInput<F>
-        ensures ahead { (seen_failing F.FallibleSource.ahead F.FallibleSource.ending result).ahead ≡ F.FallibleSource.ahead source }
-        ensures ending { (seen_failing F.FallibleSource.ahead F.FallibleSource.ending result).ending ≡ F.FallibleSource.ending source }
-        ensures fresh { New true (seen_failing F.FallibleSource.ahead F.FallibleSource.ending result) }
+        ensures fresh { Fresh (failing_making F.ahead F.ending F.given source)
+            (seen_failing F.ahead F.ending result) }
+        ensures source { result.inner.store.source ≡ record { below = source; ended = None } }
+        ensures none { queue result.inner.store.ring ≡ [] }
     {
         let chars = FallibleChars {
             below: source,
@@ -31,26 +31,36 @@ impl<F: FallibleSource> FallibleBufferedInput<F> {
             told: false,
         }
     }
+
+    /// The source behind the ring, to look at.
+    pub fn source(&self) -> &F
+        ensures { result.now ≡ self.now.inner.store.source.below }
+    {
+        &self.inner.store.source.below
+    }
 }
 
 impl<F: FallibleSource> Input for FallibleBufferedInput<F> {
-    ghost view = { seen_failing F.FallibleSource.ahead F.FallibleSource.ending };
+    ghost Held = { F };
 
-    ghost shown = { λ x. ring_shows x.inner };
+    ghost view = { seen_failing F.ahead F.ending };
 
-    ghost most = { 16 };
+    ghost shown = { λ x. ring_shown x.inner };
 
-    ghost prompt = { true };
+    ghost most = { λ _. 16 };
 
-    ghost sound = { failing_sound F.FallibleSource.ahead F.FallibleSource.ending F.FallibleSource.characters F.FallibleSource.short };
+    ghost sound = { failing_sound F.ahead F.ending F.characters F.short };
 
-    ghost faithful = { failing_faithful F.FallibleSource.ahead F.FallibleSource.ending };
+    ghost faithful = { failing_faithful F.ahead F.ending };
 
-    ghost wide = { sixteen };
+    ghost wide = { λ _. sixteen };
 
     fn lookahead(&mut self, count: usize)
-        ensures looks { Looks true 16 count (seen_failing F.FallibleSource.ahead F.FallibleSource.ending self.old) (seen_failing F.FallibleSource.ahead F.FallibleSource.ending self.new) }
-        ensures still { Still self.old self.new }
+        ensures looks { Looks count
+            (seen_failing F.ahead F.ending self.old)
+            (seen_failing F.ahead F.ending self.new) }
+        ensures most { min count 16 ≤ self.new.inner.window }
+        ensures few { Frugal 0 self.new.inner.window self.old.inner.store self.new.inner.store }
     {
         self.inner.lookahead(count);
     }
@@ -64,68 +74,79 @@ impl<F: FallibleSource> Input for FallibleBufferedInput<F> {
     }
 
     fn raw_read_ch(&mut self) -> char
-        ensures reads { Reads true result (seen_failing F.FallibleSource.ahead F.FallibleSource.ending self.old) (seen_failing F.FallibleSource.ahead F.FallibleSource.ending self.new) }
-        ensures still { Still self.old self.new }
+        ensures reads { Reads result
+            (seen_failing F.ahead F.ending self.old)
+            (seen_failing F.ahead F.ending self.new) }
+        ensures few { Frugal 1 self.old.inner.window self.old.inner.store self.new.inner.store }
     {
         self.inner.raw_read_ch()
     }
 
     fn raw_read_non_breakz_ch(&mut self) -> Option<char>
-        ensures reads { ReadsInLine true result (seen_failing F.FallibleSource.ahead F.FallibleSource.ending self.old) (seen_failing F.FallibleSource.ahead F.FallibleSource.ending self.new) }
-        ensures still { Still self.old self.new }
+        ensures reads { ReadsInLine result
+            (seen_failing F.ahead F.ending self.old)
+            (seen_failing F.ahead F.ending self.new) }
+        ensures few { Frugal (taken_by result) (cond (is_some result) self.old.inner.window 1)
+            self.old.inner.store self.new.inner.store }
+        ensures keeps { is_some result ≡ false
+            → none_left (seen_failing F.ahead F.ending self.new).ahead ≡ false
+            → 1 ≤ holding self.new.inner.store }
     {
         self.inner.raw_read_non_breakz_ch()
     }
 
     fn skip(&mut self)
-        ensures skips { Skips true 1 (seen_failing F.FallibleSource.ahead F.FallibleSource.ending self.old) (seen_failing F.FallibleSource.ahead F.FallibleSource.ending self.new) }
-        ensures still { Still self.old self.new }
+        ensures skips { Skips 1
+            (seen_failing F.ahead F.ending self.old)
+            (seen_failing F.ahead F.ending self.new) }
+        ensures few { Frugal 1 self.old.inner.window self.old.inner.store self.new.inner.store }
     {
         self.inner.skip();
     }
 
     fn skip_n(&mut self, count: usize)
-        ensures skips { Skips true count (seen_failing F.FallibleSource.ahead F.FallibleSource.ending self.old) (seen_failing F.FallibleSource.ahead F.FallibleSource.ending self.new) }
-        ensures still { Still self.old self.new }
+        ensures skips { Skips count
+            (seen_failing F.ahead F.ending self.old)
+            (seen_failing F.ahead F.ending self.new) }
+        ensures few { Frugal count self.old.inner.window self.old.inner.store self.new.inner.store }
     {
         self.inner.skip_n(count);
     }
 
     fn next_ch(&mut self) -> Option<char>
-        ensures tells { Tells true result (seen_failing F.FallibleSource.ahead F.FallibleSource.ending self.old) (seen_failing F.FallibleSource.ahead F.FallibleSource.ending self.new) }
-        ensures still { Still self.old self.new }
+        ensures tells { Tells result
+            (seen_failing F.ahead F.ending self.old)
+            (seen_failing F.ahead F.ending self.new) }
+        ensures few { Frugal 0 1 self.old.inner.store self.new.inner.store }
+        ensures keeps { is_some result ≡ true → 1 ≤ holding self.new.inner.store }
     {
         self.inner.next_ch()
     }
 
-    fn peek_nth(&self, n: usize) -> char {
+    fn peek_nth(&self, n: usize) -> char
+        ensures shows { result ≡ (ring_shown self.now.inner).at n }
+        ensures past { max self.now.inner.window 1 ≤ n → result ≡ 0 }
+    {
         self.inner.peek_nth(n)
     }
 
-    fn next_is_z(&self) -> bool
-        ensures windowed { 0 < self.now.inner.window → result ≡ none_left (seen_failing F.FallibleSource.ahead F.FallibleSource.ending self.now).ahead }
-        ensures ended { result ≡ at_end self.now.inner }
-    {
+    fn next_is_z(&self) -> bool {
         self.inner.next_is_z()
     }
 
-    fn next_are(&self, wanted: &[char]) -> Result<bool, Refusal>
-        ensures matches { Matches wanted.now self.now.inner.window (ring_shows self.now.inner) (outcome flag result) }
-        ensures exact { outcome flag result ≡ ring_matches wanted.now self.now.inner }
-    {
+    fn next_are(&self, wanted: &[char]) -> Result<bool, Refusal> {
         self.inner.next_are(wanted)
     }
 
-    fn next_marker(&self) -> Result<Option<Marker>, Refusal>
-        ensures marks { Marks self.now.inner.window (ring_shows self.now.inner) (outcome mark result) }
-        ensures exact { outcome mark result ≡ ring_marks self.now.inner }
-    {
+    fn next_marker(&self) -> Result<Option<Marker>, Refusal> {
         self.inner.next_marker()
     }
 
     fn take_source_error(&mut self) -> Option<Fault>
-        ensures asks { Asks true result (seen_failing F.FallibleSource.ahead F.FallibleSource.ending self.old) (seen_failing F.FallibleSource.ahead F.FallibleSource.ending self.new) }
-        ensures still { Still self.old self.new }
+        ensures asks { Asks result
+            (seen_failing F.ahead F.ending self.old)
+            (seen_failing F.ahead F.ending self.new) }
+        ensures inner { self.new.inner ≡ self.old.inner }
     {
         if self.told {
             return None;

@@ -10,8 +10,8 @@ impl<S: Source> Store<S> {
     /// Draws until so many are held or the source has ended.
     pub(crate) fn fill(&mut self, upto: usize)
         requires { upto ≤ 16 }
-        ensures fills { Fills S.Source.ahead upto self.old self.new }
-        ensures feeds { Feeds S.Source.kept S.Source.ended self.old self.new }
+        ensures fills { Fills S.ahead upto self.old self.new }
+        ensures feeds { Feeds S.kept S.ended self.old self.new }
     {
         while !self.met && self.ring.len < upto {
             match self.source.step() {
@@ -24,8 +24,8 @@ impl<S: Source> Store<S> {
     /// Takes the first character: one that is held, or else the next of the source, which then does not go through the ring.
     #[inline(always)]
     pub(crate) fn take(&mut self) -> Option<char>
-        ensures draws { Draws S.Source.ahead result self.old self.new }
-        ensures feeds { Feeds S.Source.kept S.Source.ended self.old self.new }
+        ensures draws { Draws S.ahead result self.old self.new }
+        ensures feeds { Feeds S.kept S.ended self.old self.new }
     {
         if let Some(c) = self.ring.pop() {
             return Some(c);

@@ -9,6 +9,7 @@ mod chars_source;
 pub mod fallible;
 pub mod fallible_input;
 mod feed;
+pub mod made;
 mod queue;
 mod ring;
 mod store;

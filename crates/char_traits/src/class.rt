@@ -7,103 +7,110 @@ use crate::{
     is_alpha, is_blank, is_blank_or_breakz, is_breakz, is_flow, is_printable, is_yaml_non_space,
 };
 
-/// A set of characters. NUL is not in it, so that a run of the set ends at the padding past the end.
+/// A set of characters, told by a value. NUL is in none, so that a run of the set ends at the padding past the end.
 pub trait Class {
-    ghost member: { ℕ → Bool };
+    ghost member: { Self → ℕ → Bool };
 
-    fn has(c: char) -> bool
-        ensures { result ≡ member c };
+    fn has(&self, c: char) -> bool
+        ensures { result ≡ member self.now c };
 
-    ghost without_nul: { member 0 ≡ false };
+    ghost without_nul: { (class : Self) → member class 0 ≡ false };
 }
 
 /// Space and tab.
+#[derive(Clone, Copy)]
 pub struct Blank;
 
 impl Class for Blank {
-    ghost member = { blank };
+    ghost member = { λ _. blank };
 
-    ghost without_nul = { refl };
+    ghost without_nul = { λ _. refl };
 
-    fn has(c: char) -> bool {
+    fn has(&self, c: char) -> bool {
         is_blank(c)
     }
 }
 
 /// ASCII letters and digits, `_` and `-`.
+#[derive(Clone, Copy)]
 pub struct Alpha;
 
 impl Class for Alpha {
-    ghost member = { alpha };
+    ghost member = { λ _. alpha };
 
-    ghost without_nul = { refl };
+    ghost without_nul = { λ _. refl };
 
-    fn has(c: char) -> bool {
+    fn has(&self, c: char) -> bool {
         is_alpha(c)
     }
 }
 
 /// Printable characters that are no break, no blank and no byte order mark.
+#[derive(Clone, Copy)]
 pub struct YamlNonSpace;
 
 impl Class for YamlNonSpace {
-    ghost member = { yaml_non_space };
+    ghost member = { λ _. yaml_non_space };
 
-    ghost without_nul = { refl };
+    ghost without_nul = { λ _. refl };
 
-    fn has(c: char) -> bool {
+    fn has(&self, c: char) -> bool {
         is_yaml_non_space(c)
     }
 }
 
 /// All characters but breaks and NUL.
+#[derive(Clone, Copy)]
 pub struct NotBreakz;
 
 impl Class for NotBreakz {
-    ghost member = { not_breakz };
+    ghost member = { λ _. not_breakz };
 
-    ghost without_nul = { refl };
+    ghost without_nul = { λ _. refl };
 
-    fn has(c: char) -> bool {
+    fn has(&self, c: char) -> bool {
         !is_breakz(c)
     }
 }
 
 /// Printable characters that are no break.
+#[derive(Clone, Copy)]
 pub struct PrintableNotBreakz;
 
 impl Class for PrintableNotBreakz {
-    ghost member = { printable_not_breakz };
+    ghost member = { λ _. printable_not_breakz };
 
-    ghost without_nul = { refl };
+    ghost without_nul = { λ _. refl };
 
-    fn has(c: char) -> bool {
+    fn has(&self, c: char) -> bool {
         is_printable(c) && !is_breakz(c)
     }
 }
 
 /// Characters of a plain scalar outside flow: no blank, no break and no NUL.
+#[derive(Clone, Copy)]
 pub struct PlainSafe;
 
 impl Class for PlainSafe {
-    ghost member = { plain_safe false };
+    ghost member = { λ _. plain_safe false };
 
-    ghost without_nul = { refl };
+    ghost without_nul = { λ _. refl };
 
-    fn has(c: char) -> bool {
+    fn has(&self, c: char) -> bool {
         !is_blank_or_breakz(c)
     }
 }
 
-/// Characters of a plain scalar in flow: the same without flow characters.
+/// Characters of a plain scalar in flow: those outside flow but the flow characters.
+#[derive(Clone, Copy)]
 pub struct PlainSafeInFlow;
 
 impl Class for PlainSafeInFlow {
-    ghost member = { plain_safe true };
+    ghost member = { λ _. plain_safe true };
 
-    ghost without_nul = { refl };
+    ghost without_nul = { λ _. refl };
 
-    fn has(c: char) -> bool {
+    fn has(&self, c: char) -> bool {
         !is_blank_or_breakz(c) && !is_flow(c)
     }
 }

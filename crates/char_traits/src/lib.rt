@@ -106,7 +106,7 @@ pub fn is_yaml_non_break(c: char) -> bool
     is_printable(c) && !is_break(c) && !is_bom(c)
 }
 
-/// The same without space and tab.
+/// Printable characters but line breaks, the byte order mark, space and tab.
 pub fn is_yaml_non_space(c: char) -> bool
     ensures { result ≡ yaml_non_space c }
 {

@@ -1,2 +1,4 @@
 pub mod Readings
 pub mod Lines
+pub mod Pulls
+pub mod Both

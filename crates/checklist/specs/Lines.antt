@@ -1,8 +1,18 @@
 -- Line ends. Assumes nothing.
-use Rattle.std.specs.Prelude.{◌≡◌, ℕ, suc, ◌+◌, ◌<◌, ◌≤◌, Bool, true, false, cond, ◌&&◌, List, [], ◌∷◌, length, Option, ◌==◌, slice_index}
+use Rattle.std.specs.Prelude.{◌≡◌, ℕ, suc, ◌+◌, ◌<◌, ◌≤◌, Bool, true, false, cond, ◌&&◌, List, [], ◌∷◌, length, drop, Option, ◌==◌, slice_index}
 use Rattle.char_traits.specs.Chars.{breakz, digit}
 use Rattle.input.specs.View.{View}
 use Rattle.input.specs.Calls.{first_of}
+use Rattle.input.specs.Tests.{start_marker, marker_in}
+use Rattle.runs.specs.Runs.{at_hash}
+
+-- whether a document start stands after so many characters
+abbrev pub start_at : List ℕ → ℕ → Bool
+start_at ahead place = start_marker (marker_in (λ n. slice_index (drop place ahead) n))
+
+-- whether a # stands there
+abbrev pub hash_at : List ℕ → ℕ → Bool
+hash_at ahead place = at_hash (drop place ahead)
 
 -- how many of some characters end a line
 abbrev pub line_ends : List ℕ → ℕ
@@ -10,7 +20,7 @@ line_ends [] = 0
 line_ends (c ∷ cs) = cond (breakz c) (suc (line_ends cs)) (line_ends cs)
 
 -- no line end is passed, and the next character is told
-pub record WithinLine (r : Option ℕ) (v w : View) : Type 0 where
+pub record WithinLine {H : Type 0} (r : Option ℕ) (v w : View H) : Type 0 where
   pub ends : line_ends w.ahead ≡ line_ends v.ahead
   pub fewer : length w.ahead ≤ length v.ahead
   pub next : r ≡ first_of w.ahead

@@ -5,12 +5,12 @@ use Rattle.input.specs.View.{View}
 use Rattle.input.specs.Calls.{closed, closing_of}
 
 -- all that was ahead is taken
-pub record Drained (chars : List ℕ) (v w : View) : Type 0 where
+pub record Drained {H : Type 0} (chars : List ℕ) (v w : View H) : Type 0 where
   pub all : chars ≡ v.ahead
   pub none_ahead : w.ahead ≡ []
   pub ending : w.ending ≡ v.ending
 
 -- and the closing is that of the ending
-pub record ReadOut (chars : List ℕ) (closing : Closing) (v : View) : Type 0 where
+pub record ReadOut {H : Type 0} (chars : List ℕ) (closing : Closing) (v : View H) : Type 0 where
   pub all : chars ≡ v.ahead
   pub told : closed closing ≡ closed (closing_of [] v.ending)

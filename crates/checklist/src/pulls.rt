@@ -4,6 +4,7 @@ ghost use Rattle.std.specs.Prelude.{◌≡◌, ◌+◌, ◌^◌, ◌<◌, ◌≤
 ghost use Rattle.std.proofs.Math.Utf8.{scalars};
 ghost use Rattle.input.specs.Calls.{closed};
 ghost use Rattle.source.specs.CodeLimit.{code_limit};
+ghost use Rattle.checklist.specs.Pulls.{PulledAll};
 
 use crate::readings::read_out;
 use buffered::fallible::FallibleBufferedInput;
@@ -58,6 +59,9 @@ pub fn codes_of(heap: Global, chars: &[char], most: usize) -> Result<Vec<u32>, A
 fn one_more(pulls: Pulls, told: bool) -> Pulls
     ensures told { told ≡ true → pulls.told ≡ pulls.made → result.told ≡ result.made }
     ensures made { pulls.made + 1 < 2 ^ 64 → result.made ≡ pulls.made + 1 }
+    ensures most { pulls.told ≤ pulls.made → result.told ≤ result.made }
+    ensures only { pulls.made + 1 < 2 ^ 64 → pulls.told ≤ pulls.made →
+        result.told ≡ result.made → told ≡ true }
 {
     Pulls {
         made: pulls.made.saturating_add(1),
@@ -69,15 +73,22 @@ fn one_more(pulls: Pulls, told: bool) -> Pulls
     }
 }
 
-/// Pulls the cable before the first character, then after every so many, and at last after all.
+/// Pulls the cable before the first character, then after every so many, 1 at least, and at last after all.
+#[tactic(auto, using(crate::proofs::Pulling::pulling_none, crate::proofs::Pulling::pulled_all))]
 pub fn pull_all_over(heap: Global, codes: &[u32], every: usize) -> Result<Pulls, AllocError>
-    ensures told { IfOk result (λ pulls. scalars codes.now ≡ true → length codes.now ≤ code_limit → pulls.told ≡ pulls.made) }
-    ensures everywhere { IfOk result (λ pulls. every ≤ 1 → pulls.made ≡ length codes.now + 1) }
+    ensures told { IfOk result (λ pulls.
+        scalars codes.now ≡ true → length codes.now ≤ code_limit → pulls.told ≡ pulls.made) }
+    ensures only { IfOk result (λ pulls.
+        pulls.told ≡ pulls.made → (scalars codes.now ≡ true) × (length codes.now ≤ code_limit)) }
+    ensures everywhere { IfOk result (λ pulls. PulledAll (length codes.now) every pulls.made) }
 {
+    let step = every.max(1);
     let mut pulls = Pulls { made: 0, told: 0 };
-    for place in (0..codes.len()).step_by(every.max(1)) {
-        let told = pull_is_told(heap, &codes[0..place])?;
+    let mut place = 0;
+    while place < codes.len() {
+        let told = pull_is_told(heap, &codes[..place])?;
         pulls = one_more(pulls, told);
+        place = place.saturating_add(step);
     }
     let told = pull_is_told(heap, codes)?;
     Ok(one_more(pulls, told))

@@ -3,9 +3,7 @@
 ghost use Rattle.std.specs.Prelude.{◌≡◌, ◌+◌, ◌<◌, ◌≤◌, ◌++◌, length, take, drop, IfOk, slice_index};
 ghost use Rattle.std.specs.List.{prefix_len};
 ghost use Rattle.char_traits.specs.Chars.{digit};
-ghost use Rattle.input.specs.Tests.{start_marker, marker_in};
-ghost use Rattle.runs.specs.Runs.{at_hash};
-ghost use Rattle.checklist.specs.Lines.{line_ends, WithinLine, DigitsEnd, setpoint_at, SetpointEnd};
+ghost use Rattle.checklist.specs.Lines.{start_at, hash_at, line_ends, WithinLine, DigitsEnd, setpoint_at, SetpointEnd};
 
 use char_traits::is_breakz;
 use input::calls::next_is_document_start;
@@ -15,7 +13,7 @@ use std::alloc::{AllocError, Global};
 
 /// Whether a document start stands after so many characters.
 pub fn finds_start<I: Scan>(input: &mut I, place: usize) -> bool
-    ensures { result ≡ start_marker (marker_in (λ n. slice_index (drop place (I.Input.view input.old).ahead) n)) }
+    ensures { result ≡ start_at (I.Input.view input.old).ahead place }
 {
     input.skip_n(place);
     input.lookahead(4);
@@ -24,7 +22,7 @@ pub fn finds_start<I: Scan>(input: &mut I, place: usize) -> bool
 
 /// Whether a `#` after so many characters is not skipped as a comment, since it is glued to what stands before it.
 pub fn leaves_hash<I: Scan>(input: &mut I, place: usize) -> bool
-    ensures { result ≡ at_hash (drop place (I.Input.view input.old).ahead) }
+    ensures { result ≡ hash_at (I.Input.view input.old).ahead place }
 {
     input.skip_n(place);
     let (count, skipped) = input.skip_ws_to_eol(SkipTabs::Yes);

@@ -1,5 +1,5 @@
 -- The table of refusals: the number of each, with its values. Assumes nothing.
-use Rattle.std.specs.Prelude.{ℕ, List, [], ◌∷◌, Some, None, Ok, Err, Option, Result}
+use Rattle.std.specs.Prelude.{◌≡◌, ℕ, List, [], ◌∷◌, Some, None, Ok, Err, Option, Result}
 use Rattle.error.specs.declared.FaultKind.{FaultKind}
 use Rattle.error.specs.declared.FaultKind.TheVariants.{InputIo, InputDecoding}
 use Rattle.error.specs.declared.Fault.{Fault}
@@ -40,6 +40,11 @@ fault_of (Err fault) = Some fault
 abbrev pub ending_number : Ending → ℕ × List ℕ
 ending_number (Ok done) = (0, [])
 ending_number (Err fault) = fault_number fault
+
+-- a fault's place is the number of characters that were given before it
+abbrev pub PlacedAt : Ending → ℕ → Type 0
+PlacedAt (Ok done) n = Unit {0}
+PlacedAt (Err fault) n = fault.place ≡ n
 
 -- an answer that may be refused: 0 where it is not, with what `given` says of it
 abbrev pub outcome : {T : Type 0} → (T → List ℕ) → Result T Refusal → ℕ × List ℕ

@@ -67,7 +67,7 @@ pub enum Refusal {
     TooLong,
     /// A text that is not UTF-8, with the place in bytes of its first bad character.
     IllFormed(Place),
-    /// A compared number is no character.
+    /// A number that was given as a character is none.
     NotACharacter,
     /// The window is too small for a test of several characters.
     NarrowWindow,

@@ -1,9 +1,11 @@
-//! The worked examples of the rules, proved together from the definitions that the calls promise.
+//! The worked examples of the rules, proved together from the definitions that the calls and the sources promise.
 #![tactic(auto)]
 
 ghost use Rattle.examples.specs.Worked.{Worked};
 
-/// Each example holds of every kind of input that keeps its contract.
-pub fn worked_examples()
-    ensures { Worked }
+use input::Input;
+
+/// Each example holds of this kind of input, whichever it is; those of a ring hold of every ring, and the pulled cable's of every ring over codes.
+pub fn worked_examples<I: Input>()
+    ensures { Worked I.Input.Held }
 {}

@@ -3,15 +3,14 @@
 
 mod program;
 
-use buffered::fallible::FallibleBufferedInput;
 use char_traits::is_breakz;
+use checklist::both::{Unread, both_count_line_ends, both_find_start, both_leave_hash, read_both};
 use checklist::pulls::{codes_of, pull_all_over};
 use checklist::readings::read_out;
-use checklist::scans::{count_line_ends, finds_start, inserted, leaves_hash, setpoint_end};
+use checklist::scans::{inserted, setpoint_end};
 use error::{Refusal, is_too_long};
 use listing::{drawn_line, split_line};
 use program::CONE_SIX;
-use source::bytes::ByteChars;
 use std::alloc::{AllocError, Global};
 use std::process::ExitCode;
 use std::{env, fs, io};
@@ -56,18 +55,13 @@ impl From<Refusal> for Stop {
     }
 }
 
-/// A program on the card.
-fn card(bytes: &[u8]) -> Result<StrInput<'_>, Refusal> {
-    let mut card = StrInput::new();
-    card.load(bytes)?;
-    Ok(card)
-}
-
-/// The same, from the cable.
-fn cable(bytes: &[u8]) -> Result<FallibleBufferedInput<ByteChars<'_>>, Refusal> {
-    let mut source = ByteChars::new();
-    source.load(bytes)?;
-    Ok(FallibleBufferedInput::new(source))
+impl From<Unread> for Stop {
+    fn from(e: Unread) -> Stop {
+        match e {
+            Unread::Refused(refusal) => Stop::Refused(refusal),
+            Unread::Memory(e) => e.into(),
+        }
+    }
 }
 
 /// How many lines there are, and how many differ.
@@ -139,30 +133,11 @@ fn check_pulls(rt: &HostRuntime, chars: &[char]) -> Result<bool, Stop> {
     Ok(all)
 }
 
-/// Whether a document start stands after so many characters, by card and by cable.
-fn start_by_both(bytes: &[u8], place: usize) -> Result<bool, Refusal> {
-    let mut card = card(bytes)?;
-    let mut cable = cable(bytes)?;
-    Ok(finds_start(&mut card, place) && finds_start(&mut cable, place))
-}
-
-/// Whether a `#` after so many characters is left, by card and by cable.
-fn hash_by_both(bytes: &[u8], place: usize) -> Result<bool, Refusal> {
-    let mut card = card(bytes)?;
-    let mut cable = cable(bytes)?;
-    Ok(leaves_hash(&mut card, place) && leaves_hash(&mut cable, place))
-}
-
-/// How many line ends the skips stop at, by card and by cable.
-fn line_ends_by_both(bytes: &[u8]) -> Result<(usize, usize), Refusal> {
-    let mut card = card(bytes)?;
-    let mut cable = cable(bytes)?;
-    Ok((count_line_ends(&mut card), count_line_ends(&mut cable)))
-}
-
 /// How many characters a text has.
 fn characters_in(heap: Global, bytes: &[u8]) -> Result<usize, Stop> {
-    let taken = read_out(heap, &mut card(bytes)?)?;
+    let mut card = StrInput::new();
+    card.load(bytes)?;
+    let taken = read_out(heap, &mut card)?;
     Ok(taken.chars.len())
 }
 
@@ -178,13 +153,15 @@ fn check_scans(rt: &HostRuntime, bytes: &[u8], chars: &[char]) -> Result<bool, S
         println!(rt; "C  --    the program is too long to add to")?;
         return Ok(true);
     }
-    let start = start_by_both(marked.as_slice(), chars.len().saturating_add(1))?;
+    let start = both_find_start(marked.as_slice(), chars.len().saturating_add(1))?;
     let place = setpoint_end(bytes);
     let glued = inserted(heap, bytes, place, COMMENT)?;
     let before = characters_in(heap, &bytes[..place.min(bytes.len())])?;
-    let left = hash_by_both(glued.as_slice(), before)?;
+    let left = both_leave_hash(glued.as_slice(), before)?;
     let ends = line_ends_in(chars);
-    let (by_card, by_cable) = line_ends_by_both(bytes)?;
+    let counted = both_count_line_ends(bytes)?;
+    let by_card = counted.card;
+    let by_cable = counted.cable;
     let stopped = by_card == ends && by_cable == ends;
     let all = start && left && stopped;
     if all {
@@ -201,8 +178,9 @@ fn check_scans(rt: &HostRuntime, bytes: &[u8], chars: &[char]) -> Result<bool, S
 
 fn show(rt: &HostRuntime, name: &str, bytes: &[u8]) -> Result<(), Stop> {
     let heap = rt.alloc();
-    let by_card = read_out(heap, &mut card(bytes)?)?;
-    let by_cable = read_out(heap, &mut cable(bytes)?)?;
+    let both = read_both(heap, bytes)?;
+    let by_card = both.card;
+    let by_cable = both.cable;
     println!(rt; "program: {name}")?;
     println!(rt; "line card cable")?;
     let compared = print_lines(rt, by_card.chars.as_slice(), by_cable.chars.as_slice())?;

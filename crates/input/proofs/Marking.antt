@@ -3,7 +3,7 @@ use Rattle.std.proofs.Common.{◌≡◌, ℕ, ◌<◌, ◌≤◌, Bool, true, fa
 use Rattle.char_traits.specs.Chars.{blank_or_breakz}
 use Rattle.input.specs.declared.Marker.{Marker}
 use Rattle.input.specs.declared.Marker.TheVariants.{Start, End}
-use Rattle.input.specs.Tests.{flag, marker_in, IsMarker, narrow, marked}
+use Rattle.input.specs.Tests.{flag, seen, marker_in, Shown, Marks, is_marker}
 
 marker_by : ℕ → ℕ → ℕ → ℕ → Option Marker
 marker_by a b c d =
@@ -25,8 +25,19 @@ flag_same false true e = absurd (omega (arith, ap (λ xs. get_or xs 0 0) e))
 flag_same false false e = refl
 
 -- with a window of 4 the answer is told, and by what is ahead
-pub marker_told : (which : Option Marker → Bool) (window : ℕ) (shown ahead : ℕ → ℕ) (is : Bool) → 4 ≤ window → ((n : ℕ) → n < 4 → shown n ≡ ahead n)
-    → IsMarker which window shown (0, flag is) → is ≡ which (marker_in ahead)
-marker_told which window shown ahead is wide same (narrow h e) = absurd (omega arith)
-marker_told which window shown ahead is wide same (marked e) =
-    flag_same is (which (marker_in shown)) (ap (λ (a : ℕ × List ℕ). a.1) e) ∙ ap which (marker_same shown ahead same)
+pub marker_told : (which : Option Marker → Bool) (window : ℕ) (s : Shown) (ahead : ℕ → ℕ) (is : Bool) → 4 ≤ window → ((n : ℕ) → n < 4 → s.at n ≡ ahead n) → Marks window s.at s.marker
+    → (0, flag is) ≡ is_marker which s → is ≡ which (marker_in ahead)
+marker_told which window s ahead is wide same marks e = go s.marker marks e
+  where
+    go : (r : Option (Option Marker)) → Marks window s.at r → (0, flag is) ≡ seen (λ m. flag (which m)) r → is ≡ which (marker_in ahead)
+    go None h e = absurd (omega arith)
+    go (Some m) h e =
+        flag_same is (which m) (ap (λ (a : ℕ × List ℕ). a.1) e) ∙ ap which (h wide ∙ marker_same s.at ahead same)
+
+-- and it is told, not refused
+pub marker_seen : (which : Option Marker → Bool) (window : ℕ) (s : Shown) → 4 ≤ window → Marks window s.at s.marker → is_marker which s ≡ (0, flag (which (marker_in s.at)))
+marker_seen which window s wide marks = go s.marker marks
+  where
+    go : (r : Option (Option Marker)) → Marks window s.at r → seen (λ m. flag (which m)) r ≡ (0, flag (which (marker_in s.at)))
+    go None h = absurd (omega arith)
+    go (Some m) h = ap (λ x. (0, flag (which x))) (h wide)

@@ -3,7 +3,7 @@ use Rattle.std.specs.Prelude.{◌≡◌, ℕ, ◌≤◌, min, Bool, true, false,
 use Rattle.error.specs.Numbers.{Ending, fault_number, fault_of}
 use Rattle.error.specs.declared.Fault.{Fault}
 use Rattle.char_traits.specs.Chars.{breakz}
-use Rattle.input.specs.View.{View, Keeps}
+use Rattle.input.specs.View.{View, Keeps, exactly}
 use Rattle.input.specs.declared.Closing.{Closing}
 use Rattle.input.specs.declared.Closing.TheVariants.{Left, Failed, Whole}
 
@@ -24,46 +24,48 @@ abbrev pub taken_by : Option ℕ → ℕ
 taken_by None = 0
 taken_by (Some c) = 1
 
-pub record Looks (prompt : Bool) (most n : ℕ) (v w : View) : Type 0 where
-  pub keeps : Keeps prompt false n v w
+-- the window is raised to a count, or to 16 if that is less
+pub record Looks {H : Type 0} (n : ℕ) (v w : View H) : Type 0 where
+  pub keeps : Keeps false (exactly n) v w
   pub told : w.told ≡ v.told
   pub ahead : w.ahead ≡ v.ahead
-  pub wide : min n most ≤ w.window
+  pub wide : min 16 n ≤ w.window
 
-pub record Reads (prompt : Bool) (c : ℕ) (v w : View) : Type 0 where
-  pub keeps : Keeps prompt (none_left v.ahead) 0 v w
+pub record Reads {H : Type 0} (c : ℕ) (v w : View H) : Type 0 where
+  pub keeps : Keeps (none_left v.ahead) (exactly 0) v w
   pub told : w.told ≡ v.told
   pub ahead : w.ahead ≡ drop 1 v.ahead
   pub character : c ≡ slice_index v.ahead 0
 
 -- the same, told by an option
-pub record Takes (prompt : Bool) (r : Option ℕ) (v w : View) : Type 0 where
-  pub keeps : Keeps prompt (none_left v.ahead) 0 v w
+pub record Takes {H : Type 0} (r : Option ℕ) (v w : View H) : Type 0 where
+  pub keeps : Keeps (none_left v.ahead) (exactly 0) v w
   pub told : w.told ≡ v.told
   pub ahead : w.ahead ≡ drop 1 v.ahead
   pub first : r ≡ first_of v.ahead
 
-pub record ReadsInLine (prompt : Bool) (r : Option ℕ) (v w : View) : Type 0 where
-  pub keeps : Keeps prompt (none_left v.ahead) 0 v w
+pub record ReadsInLine {H : Type 0} (r : Option ℕ) (v w : View H) : Type 0 where
+  pub keeps : Keeps (none_left v.ahead) (exactly 0) v w
   pub told : w.told ≡ v.told
   pub ahead : w.ahead ≡ drop (taken_by r) v.ahead
   pub character : r ≡ first_in_line v.ahead
 
-pub record Skips (prompt : Bool) (n : ℕ) (v w : View) : Type 0 where
-  pub keeps : Keeps prompt (nat_lt (length v.ahead) n) 0 v w
+pub record Skips {H : Type 0} (n : ℕ) (v w : View H) : Type 0 where
+  pub keeps : Keeps (nat_lt (length v.ahead) n) (exactly 0) v w
   pub told : w.told ≡ v.told
   pub ahead : w.ahead ≡ drop n v.ahead
 
--- the next character is told, and stays ahead
-pub record Tells (prompt : Bool) (r : Option ℕ) (v w : View) : Type 0 where
-  pub keeps : Keeps prompt (none_left v.ahead) 0 v w
+-- the next character is told, and stays ahead; the window stays as it was
+pub record Tells {H : Type 0} (r : Option ℕ) (v w : View H) : Type 0 where
+  pub keeps : Keeps (none_left v.ahead) (exactly 0) v w
   pub told : w.told ≡ v.told
   pub ahead : w.ahead ≡ v.ahead
+  pub window : w.window ≡ v.window
   pub next : r ≡ first_of v.ahead
 
 -- the fault, if it is met and untold; what was given is told from then on
-pub record Asks (prompt : Bool) (r : Option Fault) (v w : View) : Type 0 where
-  pub keeps : Keeps prompt false 0 v w
+pub record Asks {H : Type 0} (r : Option Fault) (v w : View H) : Type 0 where
+  pub keeps : Keeps false (exactly 0) v w
   pub ahead : w.ahead ≡ v.ahead
   pub fault : r ≡ cond (v.met && not v.told) (fault_of v.ending) None
   pub told : w.told ≡ (v.told || is_some r)
@@ -83,11 +85,11 @@ abbrev pub closing_of : List ℕ → Ending → Closing
 closing_of ahead ending = cond (none_left ahead) (closing_at ending) Left
 
 -- closing asks for lookahead 1, and is no asking
-pub record Closes (prompt : Bool) (most : ℕ) (r : Closing) (v w : View) : Type 0 where
-  pub looks : Looks prompt most 1 v w
+pub record Closes {H : Type 0} (r : Closing) (v w : View H) : Type 0 where
+  pub looks : Looks 1 v w
   pub closing : closed r ≡ closed (closing_of v.ahead v.ending)
 
 -- a reading that may be open is closed if it is; else nothing changes
-abbrev pub ClosesHeld : Bool → ℕ → Option Closing → View → View → Type 0
-ClosesHeld prompt most None v w = w ≡ v
-ClosesHeld prompt most (Some r) v w = Closes prompt most r v w
+abbrev pub ClosesHeld : {H : Type 0} → Option Closing → View H → View H → Type 0
+ClosesHeld None v w = w ≡ v
+ClosesHeld (Some r) v w = Closes r v w

@@ -1,11 +1,11 @@
--- What the tests of an input ask of the characters that it shows. Assumes nothing.
-use Rattle.std.specs.Prelude.{◌≡◌, ℕ, suc, ◌<◌, Bool, true, false, cond, not, ◌&&◌, ◌||◌, List, [], ◌∷◌, length, Some, None, Option, Result, ◌==◌}
+-- What an input shows, and what its tests tell of it. Assumes nothing.
+use Rattle.std.specs.Prelude.{◌≡◌, ℕ, suc, ◌<◌, ◌≤◌, Bool, true, false, cond, not, ◌&&◌, ◌||◌, List, [], ◌∷◌, length, Some, None, Option, ◌==◌, slice_index}
 use Rattle.std.proofs.Math.Utf8.{scalar, scalars}
-use Rattle.error.specs.Numbers.{outcome}
-use Rattle.error.specs.declared.Refusal.{Refusal}
 use Rattle.char_traits.specs.Chars.{blank_or_breakz, flow}
 use Rattle.input.specs.declared.Marker.{Marker}
 use Rattle.input.specs.declared.Marker.TheVariants.{Start, End}
+use Rattle.input.specs.View.{View}
+use Rattle.input.specs.Calls.{none_left}
 
 -- the values of a yes or no
 abbrev pub flag : Bool → List ℕ
@@ -27,29 +27,6 @@ abbrev pub without_nul : List ℕ → Bool
 without_nul [] = true
 without_nul (c ∷ cs) = not (c == 0) && without_nul cs
 
--- a number that is a character, or refused 3
-pub data Numbered (code : ℕ) (answer : ℕ × List ℕ) : Type 0 where
-  none : scalar code ≡ false → answer ≡ (3, []) → Numbered code answer
-  some : scalar code ≡ true → answer ≡ (0, code ∷ []) → Numbered code answer
-
-abbrev pub Characters : ℕ → Result ℕ Refusal → Type 0
-Characters code r = Numbered code (outcome (λ c. c ∷ []) r)
-
--- a character that is shown is held against a number
-pub data Compares (code shown : ℕ) (answer : ℕ × List ℕ) : Type 0 where
-  none : scalar code ≡ false → answer ≡ (3, []) → Compares code shown answer
-  same : scalar code ≡ true → answer ≡ (0, flag (shown == code)) → Compares code shown answer
-
--- Refused 4 only below the window that is wanted; else the answer, which is each kind's own where a NUL is wanted.
-pub data Matches (wanted : List ℕ) (window : ℕ) (shown : ℕ → ℕ) (answer : ℕ × List ℕ) : Type 0 where
-  narrow : window < length wanted → answer ≡ (4, []) → Matches wanted window shown answer
-  match : (yes : Bool) → (without_nul wanted ≡ true → yes ≡ found shown wanted) → answer ≡ (0, flag yes) → Matches wanted window shown answer
-
--- characters are held against numbers: refused 3 if one is no character
-pub data ComparesAll (codes : List ℕ) (window : ℕ) (shown : ℕ → ℕ) (answer : ℕ × List ℕ) : Type 0 where
-  none : scalars codes ≡ false → answer ≡ (3, []) → ComparesAll codes window shown answer
-  all : scalars codes ≡ true → Matches codes window shown answer → ComparesAll codes window shown answer
-
 -- A document marker: three - or three . followed by a blank, a breakz or the end, which shows as NUL.
 abbrev pub thrice : ℕ → (ℕ → ℕ) → Bool
 thrice c shown = shown 0 == c && (shown 1 == c && shown 2 == c)
@@ -57,9 +34,50 @@ thrice c shown = shown 0 == c && (shown 1 == c && shown 2 == c)
 abbrev pub marker_in : (ℕ → ℕ) → Option Marker
 marker_in shown = cond (blank_or_breakz (shown 3)) (cond (thrice 0x2D shown) (Some Start) (cond (thrice 0x2E shown) (Some End) None)) None
 
-pub data Marks (window : ℕ) (shown : ℕ → ℕ) (answer : ℕ × List ℕ) : Type 0 where
-  narrow : window < 4 → answer ≡ (4, []) → Marks window shown answer
-  marked : answer ≡ (0, mark (marker_in shown)) → Marks window shown answer
+-- WHAT A STATE SHOWS
+
+-- What an input answers to peeks and tests in one state: the character at a place; whether it tells the end; whether the next
+-- characters are those wanted, and the document marker that is next, or none if it refuses its window as too narrow.
+pub record Shown : Type 0 where
+  pub at : ℕ → ℕ
+  pub at_end : Bool
+  pub matches : List ℕ → Option Bool
+  pub marker : Option (Option Marker)
+
+-- Refused only below the window that is wanted. Within it the answer is by what is shown, but where a NUL is wanted each kind's own.
+abbrev pub Matches : List ℕ → ℕ → (ℕ → ℕ) → Option Bool → Type 0
+Matches wanted window shown None = window < length wanted
+Matches wanted window shown (Some is) = length wanted ≤ window → without_nul wanted ≡ true → is ≡ found shown wanted
+
+abbrev pub Marks : ℕ → (ℕ → ℕ) → Option (Option Marker) → Type 0
+Marks window shown None = window < 4
+Marks window shown (Some marker) = 4 ≤ window → marker ≡ marker_in shown
+
+-- within its window an input tells what is ahead, and NUL at the end; beyond it, as it likes
+pub record Faithful {H : Type 0} (s : Shown) (v : View H) : Type 0 where
+  pub at : (n : ℕ) → n < v.window → s.at n ≡ slice_index v.ahead n
+  pub at_end : 0 < v.window → s.at_end ≡ none_left v.ahead
+  pub matches : (wanted : List ℕ) → Matches wanted v.window s.at (s.matches wanted)
+  pub marker : Marks v.window s.at s.marker
+
+-- WHAT A TEST TELLS, by the number and the values of its answer
+
+-- 4 for a window that is too narrow
+abbrev pub seen : {T : Type 0} → (T → List ℕ) → Option T → ℕ × List ℕ
+seen values None = (4, [])
+seen values (Some x) = (0, values x)
+
+-- a number that is a character, or refused 3
+abbrev pub numbered : ℕ → ℕ × List ℕ
+numbered code = cond (scalar code) (0, code ∷ []) (3, [])
+
+-- a character that is shown is held against a number: refused 3 if that is no character
+abbrev pub compared : ℕ → ℕ → ℕ × List ℕ
+compared code shown = cond (scalar code) (0, flag (shown == code)) (3, [])
+
+-- the next characters are held against numbers: refused 3 if one is no character, before the window is asked for
+abbrev pub compared_all : List ℕ → Shown → ℕ × List ℕ
+compared_all codes s = cond (scalars codes) (seen flag (s.matches codes)) (3, [])
 
 abbrev pub any_marker : Option Marker → Bool
 any_marker None = false
@@ -75,9 +93,9 @@ end_marker None = false
 end_marker (Some Start) = false
 end_marker (Some End) = true
 
-pub data IsMarker (which : Option Marker → Bool) (window : ℕ) (shown : ℕ → ℕ) (answer : ℕ × List ℕ) : Type 0 where
-  narrow : window < 4 → answer ≡ (4, []) → IsMarker which window shown answer
-  marked : answer ≡ (0, flag (which (marker_in shown))) → IsMarker which window shown answer
+-- whether the marker that is next is one of these
+abbrev pub is_marker : (Option Marker → Bool) → Shown → ℕ × List ℕ
+is_marker which s = seen (λ m. flag (which m)) s.marker
 
 -- a : that ends a plain run: a blank, a breakz, the end or, in flow, a flow character follows
 abbrev pub colon_stops : Bool → (ℕ → ℕ) → Bool

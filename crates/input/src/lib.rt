@@ -1,16 +1,17 @@
 //! What a scanner reads from.
 #![tactic(auto)]
 
-ghost use Rattle.std.specs.Prelude.{◌≡◌, ℕ, ◌<◌, ◌≤◌, Bool, true, List, if◌then◌else◌, None, slice_index};
+ghost use Rattle.std.specs.Prelude.{◌≡◌, ℕ, ◌≤◌, min, true, if◌then◌else◌, None};
 ghost use Rattle.error.specs.Numbers.{fault_of, outcome};
 ghost use Rattle.input.specs.View.{View, Sound};
-ghost use Rattle.input.specs.Calls.{none_left, Looks, Reads, ReadsInLine, Skips, Tells, Asks};
-ghost use Rattle.input.specs.Tests.{flag, mark, Matches, Marks};
+ghost use Rattle.input.specs.Calls.{Looks, Reads, ReadsInLine, Skips, Tells, Asks};
+ghost use Rattle.input.specs.Tests.{flag, mark, Shown, Faithful, seen};
 
 use error::{Fault, Refusal};
 
 pub mod borrowed;
 pub mod calls;
+pub mod made;
 pub mod shows;
 pub mod ticket;
 
@@ -36,71 +37,73 @@ pub enum Marker {
 
 /// An input. Its meaning is its view; what it shows beyond its window is each kind's own.
 pub trait Input {
-    ghost view: { Self → View };
+    // what it holds below it, for a ring its source
+    ghost Held: { Type 0 } = { Unit {0} };
 
-    ghost shown: { Self → ℕ → ℕ };
+    ghost view: { Self → View Held };
+    // what it answers to peeks and tests
+    ghost shown: { Self → Shown };
     // the window that a lookahead can always have
-    ghost most: { ℕ };
-    // whether the ending is never met before it is due
-    ghost prompt: { Bool };
+    ghost most: { Self → ℕ };
 
     ghost sound: { (x : Self) → Sound (view x) };
 
-    ghost faithful: { (x : Self) (n : ℕ) → n < (view x).window → shown x n ≡ slice_index (view x).ahead n };
+    ghost faithful: { (x : Self) → Faithful (shown x) (view x) };
 
-    ghost wide: { 16 ≤ most };
+    ghost wide: { (x : Self) → 16 ≤ most x };
 
     /// Raises the window to the count, as far as it goes. What is ahead stays.
     fn lookahead(&mut self, count: usize)
-        ensures { Looks prompt most count (view self.old) (view self.new) };
+        ensures looks { Looks count (view self.old) (view self.new) }
+        ensures most { min count (most self.old) ≤ (view self.new).window };
 
     /// The window.
     fn buflen(&self) -> usize
         ensures { result ≡ (view self.now).window };
 
-    /// The window that a lookahead can always have.
+    /// The window that a lookahead can always have: 16 or more.
     fn bufmaxlen(&self) -> usize
-        ensures { result ≡ most };
+        ensures { result ≡ most self.now };
 
     /// Takes the first character; at the end gives NUL and takes nothing.
     fn raw_read_ch(&mut self) -> char
-        ensures { Reads prompt result (view self.old) (view self.new) };
+        ensures { Reads result (view self.old) (view self.new) };
 
-    /// The same, but takes nothing before a breakz or at the end.
+    /// Takes one character and tells it; before a breakz and at the end it takes nothing, and tells so.
     fn raw_read_non_breakz_ch(&mut self) -> Option<char>
-        ensures { ReadsInLine prompt result (view self.old) (view self.new) };
+        ensures { ReadsInLine result (view self.old) (view self.new) };
 
     /// Takes one character or, at the end, nothing.
     fn skip(&mut self)
-        ensures { Skips prompt 1 (view self.old) (view self.new) };
+        ensures { Skips 1 (view self.old) (view self.new) };
 
     /// Takes so many characters, or all that are ahead if these are fewer.
     fn skip_n(&mut self, count: usize)
-        ensures { Skips prompt count (view self.old) (view self.new) };
+        ensures { Skips count (view self.old) (view self.new) };
 
     /// The next character, or none at the end. It stays ahead, and the window as it was.
     fn next_ch(&mut self) -> Option<char>
-        ensures { Tells prompt result (view self.old) (view self.new) };
+        ensures { Tells result (view self.old) (view self.new) };
 
     /// The character that is shown at a place: within the window the one ahead, or NUL if there is none.
     fn peek_nth(&self, n: usize) -> char
-        ensures { result ≡ shown self.now n };
+        ensures { result ≡ (shown self.now).at n };
 
-    /// Whether nothing is ahead. It needs a window of 1.
+    /// Whether nothing is ahead, with a window of 1 or more.
     fn next_is_z(&self) -> bool
-        ensures { 0 < (view self.now).window → result ≡ none_left (view self.now).ahead };
+        ensures { result ≡ (shown self.now).at_end };
 
-    /// Whether the next characters are those wanted.
+    /// Whether the next characters are those wanted. Refusal 4 only below a window of that many.
     fn next_are(&self, wanted: &[char]) -> Result<bool, Refusal>
-        ensures { Matches wanted.now (view self.now).window (shown self.now) (outcome flag result) };
+        ensures { outcome flag result ≡ seen flag ((shown self.now).matches wanted.now) };
 
-    /// The document marker that is next, if one is.
+    /// The document marker that is next, if one is. Refusal 4 only below a window of 4.
     fn next_marker(&self) -> Result<Option<Marker>, Refusal>
-        ensures { Marks (view self.now).window (shown self.now) (outcome mark result) };
+        ensures { outcome mark result ≡ seen mark (shown self.now).marker };
 
     /// The fault, if the ending is met and its fault was not told yet.
     fn take_source_error(&mut self) -> Option<Fault>
-        ensures { Asks prompt result (view self.old) (view self.new) };
+        ensures { Asks result (view self.old) (view self.new) };
 
     /// The fault of an ending that is met, told before or not.
     fn met_fault(&self) -> Option<Fault>

@@ -12,13 +12,15 @@ pub struct Reading {
 
 impl Reading {
     /// Opens a reading of an input.
-    pub fn open<I: Input>(_input: &I) -> Reading {
+    pub fn open<I: Input>(_input: &I) -> Reading
+        ensures { result ≡ record { opened = tt } }
+    {
         Reading { opened: () }
     }
 
     /// Asks for lookahead 1, and tells how the reading ended.
     pub fn close<I: Input>(self, input: &mut I) -> Closing
-        ensures { Closes I.Input.prompt I.Input.most result (I.Input.view input.old) (I.Input.view input.new) }
+        ensures { Closes result (I.Input.view input.old) (I.Input.view input.new) }
     {
         let Reading { opened: () } = self;
         input.lookahead(1);
@@ -33,7 +35,7 @@ impl Reading {
 
     /// Closes the reading that is open, if one is.
     pub fn close_held<I: Input>(held: Option<Reading>, input: &mut I) -> Option<Closing>
-        ensures closes { ClosesHeld I.Input.prompt I.Input.most result (I.Input.view input.old) (I.Input.view input.new) }
+        ensures closes { ClosesHeld result (I.Input.view input.old) (I.Input.view input.new) }
         ensures held { is_some result ≡ is_some held }
     {
         match held {
@@ -44,7 +46,7 @@ impl Reading {
 
     /// Closes the reading that is open; where none is, one is opened for it.
     pub fn close_opened<I: Input>(held: Option<Reading>, input: &mut I) -> Closing
-        ensures { Closes I.Input.prompt I.Input.most result (I.Input.view input.old) (I.Input.view input.new) }
+        ensures { Closes result (I.Input.view input.old) (I.Input.view input.new) }
     {
         held.unwrap_or_else(|| Reading::open(input)).close(input)
     }

@@ -79,6 +79,7 @@ chunk_name Chunk.Skip = codes "skip_plain_scalar_chunk"
 abbrev pub own_name : Own → List ℕ
 own_name Own.Open = codes "open"
 own_name Own.Close = codes "close"
+own_name Own.Steps = codes "steps"
 own_name Own.RoomBytes = codes "room_bytes"
 
 abbrev pub class_name : Class → List ℕ

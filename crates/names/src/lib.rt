@@ -202,11 +202,12 @@ impl FromStr for Chunk {
     }
 }
 
-/// What is asked of the player beside its input.
+/// A name of what is asked of the player itself, and not of its input.
 #[derive(Clone, Copy)]
 pub enum Own {
     Open,
     Close,
+    Steps,
     RoomBytes,
 }
 
@@ -219,6 +220,7 @@ impl FromStr for Own {
         match word {
             "open" => Ok(Own::Open),
             "close" => Ok(Own::Close),
+            "steps" => Ok(Own::Steps),
             "room_bytes" => Ok(Own::RoomBytes),
             _ => Err(UnknownName),
         }

@@ -7,7 +7,7 @@ use Rattle.protocol.specs.declared.command.Command.{Command}
 use Rattle.protocol.specs.declared.command.Command.TheVariants.{Silent, Bad, New, Class, Production, Room, RoomBytes, Call}
 use Rattle.player.specs.declared.rooms.Rooms.{Rooms}
 use Rattle.player.specs.Classes.{class_of, production_of, AnswersClass}
-use Rattle.player.specs.Rooms.{last_room}
+use Rattle.player.specs.Rooms.{last_room, Asked}
 use Rattle.player.specs.Meaning.{line_of}
 
 -- the line, where the desk has these rooms; with no input, a call is told so
@@ -20,3 +20,8 @@ AsideLine (Production production code) rooms line = (a : Answer) × AnswersClass
 AsideLine (Room size filled) rooms line = line ≡ line_of answer.Done
 AsideLine RoomBytes rooms line = line ≡ bytes_text (last_room rooms) ++ (10 ∷ [])
 AsideLine (Call call) rooms line = line ≡ line_of answer.NoInput
+
+-- only a line that asks for a room changes the rooms
+abbrev pub AsideRooms : Command → Rooms → Rooms → Type 0
+AsideRooms (Room size filled) x y = Asked size filled x y
+AsideRooms command x y = y ≡ x

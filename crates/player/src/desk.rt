@@ -1,8 +1,9 @@
 //! What a player has beside its input: rooms, and the lines that it has yet to hand out.
 
-ghost use Rattle.std.specs.Prelude.{◌≡◌, ℕ, ◌<◌, ◌≤◌, List, [], ◌++◌, length, string_bytes, OnOk};
-ghost use Rattle.player.specs.Aside.{AsideLine};
+ghost use Rattle.std.specs.Prelude.{◌≡◌, ℕ, ◌<◌, ◌≤◌, List, [], ◌++◌, length, string_bytes, OnOk, IfOk};
+ghost use Rattle.player.specs.Aside.{AsideLine, AsideRooms};
 ghost use Rattle.player.specs.Meaning.{line_of};
+ghost use Rattle.player.specs.Rooms.{NewRooms};
 
 use crate::classes::class_answer;
 use crate::rooms::Rooms;
@@ -23,7 +24,9 @@ pub struct Desk {
 }
 
 impl Desk {
-    pub fn new(heap: Global) -> Result<Desk, AllocError> {
+    pub fn new(heap: Global) -> Result<Desk, AllocError>
+        ensures { IfOk result (λ desk. (string_bytes desk.out ≡ []) × NewRooms desk.rooms) }
+    {
         let rooms = Rooms::new(heap)?;
         Ok(Desk {
             heap,
@@ -34,7 +37,8 @@ impl Desk {
 
     /// Answers a command that asks nothing of an input. With one that does, there is none.
     pub fn aside(&mut self, command: Command) -> Result<(), AllocError>
-        ensures { OnOk result ((line : List ℕ) × (string_bytes self.new.out ≡ string_bytes self.old.out ++ line) × AsideLine command self.old.rooms line) }
+        ensures line { OnOk result ((line : List ℕ) × (string_bytes self.new.out ≡ string_bytes self.old.out ++ line) × AsideLine command self.old.rooms line) }
+        ensures rooms { OnOk result (AsideRooms command self.old.rooms self.new.rooms) }
     {
         match command {
             Command::Silent | Command::New => Ok(()),

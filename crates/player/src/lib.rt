@@ -7,3 +7,5 @@ pub mod list;
 mod perform;
 mod play;
 mod rooms;
+pub mod stepped;
+mod usual;

@@ -1,10 +1,12 @@
 //! Commands line by line, up to the next new input.
 
-ghost use Rattle.std.specs.Prelude.{◌≡◌, ◌≤◌, length, IfOk};
+ghost use Rattle.std.specs.Prelude.{◌≡◌, ℕ, ◌<◌, ◌≤◌, List, [], ◌++◌, length, string_bytes, is_some, IsOk, OnOk, IfOk};
 ghost use Rattle.player.specs.Lines.{IsLineFeed, TakesLine, Leaves};
+ghost use Rattle.player.specs.Turns.{Turns, open_next};
 
 use crate::desk::Desk;
 use crate::play::play;
+use crate::stepped::Stepped;
 use input::borrowed::BorrowedInput;
 use input::ticket::Reading;
 use protocol::command::{Command, parse};
@@ -72,26 +74,38 @@ pub fn idle<'a>(
     Ok(None)
 }
 
-fn turn<'a, I: Scan + BorrowedInput<'a>>(
+/// Answers one command, and hands on the ticket of an open reading.
+fn turn<'a, I: Scan + BorrowedInput<'a> + Stepped>(
     input: &mut I,
     command: Command,
     held: Option<Reading>,
     desk: &mut Desk,
-) -> (Result<(), AllocError>, Option<Reading>) {
+) -> (Result<(), AllocError>, Option<Reading>)
+    ensures line { OnOk result.0 ((line : List ℕ) × (string_bytes desk.new.out ≡ string_bytes desk.old.out ++ line)
+        × Turns (I.Input.shown input.old) (I.Input.most input.old) (I.Stepped.stepped input.old) (I.BorrowedInput.Lends input.old)
+        command line desk.old.rooms desk.new.rooms (I.Input.view input.old) (I.Input.view input.new)) }
+    ensures held { is_some result.1 ≡ open_next command (is_some held) }
+{
     match command {
         Command::Call(call) => play(input, call, held, &mut desk.rooms, &mut desk.out),
         other => (desk.aside(other), held),
     }
 }
 
-fn settled(done: Result<(), AllocError>, rt: &impl Print, desk: &mut Desk) -> io::Result<()> {
+/// After a command is answered, hands out the lines that wait if they are many.
+fn settled(done: Result<(), AllocError>, rt: &impl Print, desk: &mut Desk) -> io::Result<()>
+    ensures done { OnOk result (IsOk done) }
+    ensures few { OnOk result (length (string_bytes desk.old.out) < 65536 → string_bytes desk.new.out ≡ string_bytes desk.old.out) }
+    ensures many { OnOk result (65536 ≤ length (string_bytes desk.old.out) → string_bytes desk.new.out ≡ []) }
+    ensures rooms { desk.new.rooms ≡ desk.old.rooms }
+{
     done?;
     desk.flush_if_large(rt)
 }
 
 /// Answers commands with an input, and at last closes the reading that is open. Tells the line that asks for the next new input, or that there is none.
 #[tactic(auto, using(crate::proofs::TakenLines::shorter, crate::proofs::TakenLines::passed_none, crate::proofs::TakenLines::passed_more, crate::proofs::TakenLines::leaves_none, crate::proofs::TakenLines::leaves_some))]
-pub fn serve<'a, 'b, I: Scan + BorrowedInput<'a>>(
+pub fn serve<'a, 'b, I: Scan + BorrowedInput<'a> + Stepped>(
     rt: &impl Print,
     input: &mut I,
     lines: &mut Lines<'b>,

@@ -1,11 +1,9 @@
 //! One call on an input, and its answer.
 
-ghost use Rattle.std.specs.Prelude.{◌≡◌, Bool, Result};
-ghost use Rattle.error.specs.Numbers.{outcome};
-ghost use Rattle.error.specs.declared.Refusal.{Refusal as Refused};
-ghost use Rattle.input.specs.Tests.{flag};
+ghost use Rattle.std.specs.Prelude.{◌≡◌};
 ghost use Rattle.answers.specs.Answers.{tested};
-ghost use Rattle.player.specs.Meaning.{Steps, Counts, Tests, Comparing, to_eol, Skimming, Fetching};
+ghost use Rattle.player.specs.Meaning.{Steps, Counts, test_answer, compare_answer, to_eol, Skimming, Fetching};
+ghost use Rattle.player.specs.Rooms.{Lays};
 
 use answers::answer::Answer;
 use error::Refusal;
@@ -16,7 +14,7 @@ use runs::{Fetched, WhitespaceResult};
 use scan::Scan;
 
 pub fn step<I: Input>(input: &mut I, step: Step) -> Answer
-    ensures { Steps I.Input.prompt I.Input.most (I.Input.shown input.old) step result (I.Input.view input.old) (I.Input.view input.new) }
+    ensures { Steps (I.Input.shown input.old) (I.Input.most input.old) step result (I.Input.view input.old) (I.Input.view input.new) }
 {
     match step {
         Step::Buflen => Answer::Number(input.buflen()),
@@ -36,7 +34,7 @@ pub fn step<I: Input>(input: &mut I, step: Step) -> Answer
 }
 
 pub fn counted<I: Input>(input: &mut I, counted: Counted, n: usize) -> Answer
-    ensures { Counts I.Input.prompt I.Input.most (I.Input.shown input.old) counted n result (I.Input.view input.old) (I.Input.view input.new) }
+    ensures { Counts (I.Input.shown input.old) (I.Input.most input.old) counted n result (I.Input.view input.old) (I.Input.view input.new) }
 {
     match counted {
         Counted::Lookahead => {
@@ -52,7 +50,7 @@ pub fn counted<I: Input>(input: &mut I, counted: Counted, n: usize) -> Answer
 }
 
 pub fn test<I: Input>(input: &I, test: Test) -> Answer
-    ensures { Tests (I.Input.shown input.now) (I.Input.view input.now) test result }
+    ensures { result ≡ test_answer (I.Input.shown input.now) test }
 {
     match test {
         Test::Indicator => Answer::from(calls::next_is_document_indicator(input)),
@@ -70,8 +68,9 @@ pub fn test<I: Input>(input: &I, test: Test) -> Answer
     }
 }
 
+#[tactic(auto, using(crate::proofs::Told::all_told))]
 fn comparing<I: Input>(input: &I, comparison: Comparison) -> Result<bool, Refusal>
-    ensures { Comparing (I.Input.shown input.now) (I.Input.view input.now) comparison (outcome flag result) }
+    ensures { tested result ≡ compare_answer (I.Input.shown input.now) comparison }
 {
     match comparison {
         Comparison::Next(code) => calls::next_char_is(input, code),
@@ -82,7 +81,7 @@ fn comparing<I: Input>(input: &I, comparison: Comparison) -> Result<bool, Refusa
 }
 
 pub fn compare<I: Input>(input: &I, comparison: Comparison) -> Answer
-    ensures { (told : Result Bool Refused) × (result ≡ tested told) × Comparing (I.Input.shown input.now) (I.Input.view input.now) comparison (outcome flag told) }
+    ensures { result ≡ compare_answer (I.Input.shown input.now) comparison }
 {
     Answer::from(comparing(input, comparison))
 }
@@ -97,7 +96,7 @@ fn eol_answer(count: usize, res: Result<WhitespaceResult, Refusal>) -> Answer
 }
 
 pub fn skim<I: Scan>(input: &mut I, skim: Skim) -> Answer
-    ensures { Skimming I.Input.prompt skim result (I.Input.view input.old) (I.Input.view input.new) }
+    ensures { Skimming skim result (I.Input.view input.old) (I.Input.view input.new) }
 {
     match skim {
         Skim::NonBreakz => Answer::Number(input.skip_while_non_breakz()),
@@ -119,13 +118,15 @@ pub fn skim<I: Scan>(input: &mut I, skim: Skim) -> Answer
 }
 
 /// What a fetch answers; of a chunk, also whether it stopped.
+#[tactic(auto, using(crate::proofs::Laid::lays))]
 pub fn fetch<I: Scan>(
     input: &mut I,
     fetch: Fetch,
     room: &mut [u8],
     filled: usize,
 ) -> (Option<bool>, Fetched)
-    ensures { Fetching I.Input.prompt fetch room.old filled result room.new (I.Input.view input.old) (I.Input.view input.new) }
+    ensures fetches { Fetching fetch room.old filled result room.new (I.Input.view input.old) (I.Input.view input.new) }
+    ensures lays { Lays room.old filled room.new result.1.filled }
 {
     match fetch {
         Fetch::Alpha => (None, input.fetch_while_is_alpha(room, filled)),

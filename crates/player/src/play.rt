@@ -1,10 +1,12 @@
 //! A call with its line of answer.
 
-ghost use Rattle.std.specs.Prelude.{◌≡◌, ℕ, List, ◌++◌, string_bytes, Option, OnOk};
-ghost use Rattle.player.specs.Meaning.{part_line, Plays};
+ghost use Rattle.std.specs.Prelude.{◌≡◌, ℕ, List, ◌++◌, string_bytes, is_some, Option, OnOk};
+ghost use Rattle.player.specs.Meaning.{part_line};
+ghost use Rattle.player.specs.Plays.{Plays, RoomsStay, open_after};
 
 use crate::perform::{compare, counted, skim, step, test};
 use crate::rooms::Rooms;
+use crate::stepped::Stepped;
 use answers::answer::Answer;
 use answers::line::{push_answer, push_part};
 use input::borrowed::BorrowedInput;
@@ -20,7 +22,8 @@ fn borrow<'a, I: BorrowedInput<'a>>(
     end: usize,
     out: &mut String,
 ) -> Result<(), AllocError>
-    ensures { (part : Option (List ℕ)) × OnOk result (string_bytes out.new ≡ string_bytes out.old ++ part_line part) }
+    ensures { (part : Option (List ℕ)) × I.BorrowedInput.Lends input.now start end part
+        × OnOk result (string_bytes out.new ≡ string_bytes out.old ++ part_line part) }
 {
     match input.slice_borrowed(start, end) {
         Some(part) => push_part(out, part),
@@ -29,14 +32,18 @@ fn borrow<'a, I: BorrowedInput<'a>>(
 }
 
 /// Makes a call, and appends its line. The ticket of an open reading is handed on, and closing takes it.
-pub fn play<'a, I: Scan + BorrowedInput<'a>>(
+pub fn play<'a, I: Scan + BorrowedInput<'a> + Stepped>(
     input: &mut I,
     call: Call,
     held: Option<Reading>,
     rooms: &mut Rooms,
     out: &mut String,
 ) -> (Result<(), AllocError>, Option<Reading>)
-    ensures { (line : List ℕ) × OnOk result.0 (string_bytes out.new ≡ string_bytes out.old ++ line) × Plays I.Input.prompt I.Input.most (I.Input.shown input.old) call line (I.Input.view input.old) (I.Input.view input.new) }
+    ensures plays { (line : List ℕ) × OnOk result.0 (string_bytes out.new ≡ string_bytes out.old ++ line)
+        × Plays (I.Input.shown input.old) (I.Input.most input.old) (I.Stepped.stepped input.old) (I.BorrowedInput.Lends input.old)
+        call line rooms.old rooms.new (I.Input.view input.old) (I.Input.view input.new) }
+    ensures rooms { RoomsStay call rooms.old rooms.new }
+    ensures held { is_some result.1 ≡ open_after call (is_some held) }
 {
     match call {
         Call::Step(which) => (push_answer(out, step(input, which)), held),
@@ -61,5 +68,6 @@ pub fn play<'a, I: Scan + BorrowedInput<'a>>(
             push_answer(out, Answer::Closed(Reading::close_opened(held, input))),
             None,
         ),
+        Call::Steps => (push_answer(out, Answer::Steps(input.steps())), held),
     }
 }

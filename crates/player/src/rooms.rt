@@ -1,23 +1,23 @@
 //! The rooms that fetches are given.
 
-ghost use Rattle.std.specs.Prelude.{◌≡◌, ℕ, ◌≤◌, List, [], ◌∷◌, ◌++◌, length, replicate, string_bytes, vec_items, OnOk, IfOk};
+ghost use Rattle.std.specs.Prelude.{◌≡◌, ℕ, ◌≤◌, max, List, [], ◌∷◌, ◌++◌, length, string_bytes, vec_items, OnOk, IfOk};
 ghost use Rattle.answers.specs.Digits.{bytes_text};
-ghost use Rattle.player.specs.Rooms.{last_room, Asked};
-ghost use Rattle.player.specs.Meaning.{between, SomeRoom};
+ghost use Rattle.player.specs.Untouched.{untouched};
+ghost use Rattle.player.specs.Rooms.{last_room, next_bytes, next_filled, NewRooms, Asked, Lays};
+ghost use Rattle.player.specs.Meaning.{between, FetchLine};
+ghost use Rattle.player.specs.Plays.{FetchPlays};
 
 use crate::perform::fetch;
+use crate::usual::Usual;
 use answers::line::{push_fetched, push_room};
 use protocol::command::Fetch;
 use scan::Scan;
 use std::alloc::{AllocError, Global};
 
-/// The size of a room that was not asked for: more than any fetch can fill.
-const USUAL_SIZE: usize = 70_000;
-
 /// What a room holds before a fetch.
-const UNTOUCHED: u8 = 0xEE;
+pub(crate) const UNTOUCHED: u8 = 0xEE;
 
-/// A room, of which so many bytes from the start are filled.
+/// A room that was asked for, of which so many bytes from the start are filled.
 #[derive(Drop)]
 struct Room {
     bytes: Vec<u8>,
@@ -31,38 +31,54 @@ enum Last {
     Asked(Room),
 }
 
-/// One usual room, of which only what was written is wiped, and the next that was asked for.
+/// One usual room, and the next that was asked for.
 #[derive(Drop)]
 pub struct Rooms {
-    usual: Room,
+    usual: Usual,
     next: Option<Room>,
     last: Option<Last>,
 }
 
+/// So many bytes that nothing was written to.
+#[tactic(auto, unfolding(crate::specs::Untouched::untouched))]
+pub(crate) fn clean_bytes(heap: Global, size: usize) -> Result<Vec<u8>, AllocError>
+    ensures { IfOk result (λ bytes. vec_items bytes ≡ untouched size) }
+{
+    vec![in heap; UNTOUCHED; size]
+}
+
 /// The bytes from one filled count to another.
 fn appended(room: &[u8], from: usize, to: usize) -> &[u8]
-    ensures { from ≤ to → to ≤ length room.now → result.now ≡ between from to room.now }
+    requires { to ≤ max from (length room.now) }
+    ensures { result.now ≡ between from to room.now }
 {
-    if from <= to && to <= room.len() {
-        &room[from..to]
-    } else {
-        &[]
-    }
+    if from < to { &room[from..to] } else { &[] }
+}
+
+/// A fetch into a room, and its line. Tells the new filled count.
+pub(crate) fn fetch_line<I: Scan>(
+    input: &mut I,
+    asked: Fetch,
+    room: &mut [u8],
+    filled: usize,
+    out: &mut String,
+) -> (Result<(), AllocError>, usize)
+    ensures line { (line : List ℕ) × OnOk result.0 (string_bytes out.new ≡ string_bytes out.old ++ line)
+        × FetchLine asked room.old filled room.new result.1 line (I.Input.view input.old) (I.Input.view input.new) }
+    ensures lays { Lays room.old filled room.new result.1 }
+{
+    let (stopped, fetched) = fetch(input, asked, room, filled);
+    let bytes = appended(room, filled, fetched.filled);
+    let pushed = push_fetched(out, stopped, fetched.count, bytes, fetched.refusal);
+    (pushed, fetched.filled)
 }
 
 impl Room {
     fn new(heap: Global, size: usize, filled: usize) -> Result<Room, AllocError>
-        ensures { IfOk result (λ room. (vec_items room.bytes ≡ replicate size UNTOUCHED) × (room.filled ≡ filled)) }
+        ensures { IfOk result (λ room. (vec_items room.bytes ≡ untouched size) × (room.filled ≡ filled)) }
     {
-        let bytes = vec![in heap; UNTOUCHED; size]?;
+        let bytes = clean_bytes(heap, size)?;
         Ok(Room { bytes, filled })
-    }
-
-    /// Takes back what was filled.
-    fn wipe(&mut self) {
-        let until = self.filled.min(self.bytes.len());
-        self.bytes[..until].fill(UNTOUCHED);
-        self.filled = 0;
     }
 
     /// A fetch into the room, and its line.
@@ -72,21 +88,23 @@ impl Room {
         asked: Fetch,
         out: &mut String,
     ) -> Result<(), AllocError>
-        ensures { (line : List ℕ) × OnOk result (string_bytes out.new ≡ string_bytes out.old ++ line) × SomeRoom I.Input.prompt asked line (I.Input.view input.old) (I.Input.view input.new) }
+        ensures { (line : List ℕ) × OnOk result (string_bytes out.new ≡ string_bytes out.old ++ line)
+            × FetchLine asked (vec_items self.old.bytes) self.old.filled (vec_items self.new.bytes) self.new.filled line
+            (I.Input.view input.old) (I.Input.view input.new) }
     {
         let room = self.bytes.as_mut_slice();
-        let (stopped, fetched) = fetch(input, asked, room, self.filled);
-        let bytes = appended(room, self.filled, fetched.filled);
-        let pushed = push_fetched(out, stopped, fetched.count, bytes, fetched.refusal);
-        self.filled = fetched.filled;
+        let (pushed, filled) = fetch_line(input, asked, room, self.filled, out);
+        self.filled = filled;
         pushed
     }
 }
 
 impl Rooms {
-    pub fn new(heap: Global) -> Result<Rooms, AllocError> {
+    pub fn new(heap: Global) -> Result<Rooms, AllocError>
+        ensures { IfOk result NewRooms }
+    {
         Ok(Rooms {
-            usual: Room::new(heap, USUAL_SIZE, 0)?,
+            usual: Usual::new(heap)?,
             next: None,
             last: None,
         })
@@ -118,7 +136,8 @@ impl Rooms {
         asked: Fetch,
         out: &mut String,
     ) -> Result<(), AllocError>
-        ensures { (line : List ℕ) × OnOk result (string_bytes out.new ≡ string_bytes out.old ++ line) × SomeRoom I.Input.prompt asked line (I.Input.view input.old) (I.Input.view input.new) }
+        ensures { (line : List ℕ) × OnOk result (string_bytes out.new ≡ string_bytes out.old ++ line)
+            × FetchPlays asked line self.old self.new (I.Input.view input.old) (I.Input.view input.new) }
     {
         match self.next.take() {
             Some(mut room) => {
@@ -128,7 +147,6 @@ impl Rooms {
             }
             None => {
                 self.last = Some(Last::Usual);
-                self.usual.wipe();
                 self.usual.fetch(input, asked, out)
             }
         }

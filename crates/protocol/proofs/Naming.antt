@@ -23,6 +23,7 @@ no_bare name step test scan own (Command.Call (Call.Fetch Fetch.NonSpace)) says 
 no_bare name step test scan own (Command.Call (Call.Fetch Fetch.Line)) says = scan Scan.FetchLine says.0
 no_bare name step test scan own (Command.Call Call.Open) says = own Own.Open says.0
 no_bare name step test scan own (Command.Call Call.Close) says = own Own.Close says.0
+no_bare name step test scan own (Command.Call Call.Steps) says = own Own.Steps says.0
 no_bare name step test scan own Command.RoomBytes says = own Own.RoomBytes says.0
 no_bare name step test scan own (Command.Call (Call.Comparison (Comparison.Next c))) says = says.1
 no_bare name step test scan own c says = search

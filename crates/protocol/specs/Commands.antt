@@ -21,6 +21,7 @@ scan_call Scan.FetchLine = Call.Fetch Fetch.Line
 abbrev pub own_command : Own → Command
 own_command Own.Open = Command.Call Call.Open
 own_command Own.Close = Command.Call Call.Close
+own_command Own.Steps = Command.Call Call.Steps
 own_command Own.RoomBytes = Command.RoomBytes
 
 abbrev pub flowing_call : Flowing → Bool → Call

@@ -78,6 +78,7 @@ call_forms (Call.Fetch fetch) = fetch_forms fetch
 call_forms (Call.Borrow start end) = Is (codes "slice_borrowed") ∷ Count start ∷ Count end ∷ []
 call_forms Call.Open = Is (codes "open") ∷ []
 call_forms Call.Close = Is (codes "close") ∷ []
+call_forms Call.Steps = Is (codes "steps") ∷ []
 
 -- the words of a command; what is no call, class or room has none
 abbrev pub forms : Command → List Form

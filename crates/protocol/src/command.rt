@@ -54,6 +54,8 @@ pub enum Call {
     Borrow(usize, usize),
     Open,
     Close,
+    /// How often the source below was stepped.
+    Steps,
 }
 
 #[derive(Clone, Copy)]
@@ -90,6 +92,7 @@ impl From<Own> for Command {
         match own {
             Own::Open => Command::Call(Call::Open),
             Own::Close => Command::Call(Call::Close),
+            Own::Steps => Command::Call(Call::Steps),
             Own::RoomBytes => Command::RoomBytes,
         }
     }

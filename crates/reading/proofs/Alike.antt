@@ -2,10 +2,9 @@
 use Rattle.std.proofs.Common.{◌≡◌, ℕ, suc, ◌+◌, ◌≤◌, min, max, Bool, true, false, cond, List, [], ◌∷◌, length, get_or, drop, Option, sym, refl, ap, ◌∙◌, subst, arith}
 use mathlib.Core.List.{head-eq_of_cons-eq, tail-eq_of_cons-eq}
 use lib.Utf8.{encodes}
-use Rattle.error.specs.Numbers.{outcome}
-use Rattle.input.specs.View.{View, Sound}
+use Rattle.input.specs.View.{Manner, View, Sound, Look}
 use Rattle.input.specs.Calls.{first_of, first_in_line, taken_by}
-use Rattle.input.specs.Tests.{flag}
+use Rattle.input.specs.Tests.{Shown, Faithful}
 use Rattle.input.proofs.Keeping.{never}
 use Rattle.utf8.specs.Room.{laid}
 use Rattle.runs.specs.declared.Fetched.{Fetched}
@@ -18,29 +17,29 @@ use Rattle.reading.specs.declared.call.Call.{Call}
 use Rattle.reading.specs.declared.call.Call.TheVariants.{Lookahead, Added, LookCh, NextCh, Read, ReadNonBreakz, Skip, SkipN, Peek, PeekNth, Test as TestCall, Scan, TakeSourceError, Open, Close}
 use Rattle.reading.specs.declared.call.Answer.{Answer}
 use Rattle.reading.specs.declared.call.Answer.TheVariants.{Nothing, Character, Next, Tested, Count, Fetch, Blanks, ToEol}
-use Rattle.reading.specs.Line.{Line, Scans, Means, Faithful, Performed, answered, next_values, run_skipped, run_fetched}
+use Rattle.reading.specs.Line.{Line, Scans, Means, Performed, answered, next_values, run_skipped, run_fetched}
 use Rattle.reading.specs.Sorts.{scan_sort, sort_of, asks}
 use Rattle.reading.specs.Reading.{Ran, Given, Got, room_of, given, got, calls, answers, Listed, Same}
 use Rattle.reading.proofs.Facts.{Facts, facts}
-use Rattle.reading.proofs.Shown.{Upto, tests_same}
+use Rattle.reading.proofs.Shown.{shown_same, tests_same}
 
 abbrev filled_of : Call → ℕ → ℕ
 filled_of k filled = cond (sort_of k).fetches filled 0
 
 -- what one call of two inputs has in common
-abbrev Common : Call → Line → Line → View → View → Type 0
+abbrev Common : {H K : Type 0} → Call → Line → Line → View H → View K → Type 0
 Common k l m u x = (answered l.answer ≡ answered m.answer) × (room_of k l.left ≡ room_of k m.left) × (u.ahead ≡ x.ahead)
 
-module _ (p q : Bool) (m n : ℕ) (f g : ℕ → ℕ) (v u y x : View) (l o : Line) (e : v.ahead ≡ y.ahead) where
+module _ {H K : Type 0} (v u : View H) (y x : View K) (l o : Line) (e : v.ahead ≡ y.ahead) where
   -- two equal answers
   told : (c d : Answer) → l.answer ≡ c → o.answer ≡ d → answered c ≡ answered d → answered l.answer ≡ answered o.answer
   told c d i j k = ap answered i ∙ k ∙ sym (ap answered j)
 
   rested : u ≡ v → x ≡ y → u.ahead ≡ x.ahead
-  rested i j = ap (λ (z : View). z.ahead) i ∙ e ∙ sym (ap (λ (z : View). z.ahead) j)
+  rested i j = ap (λ (z : View H). z.ahead) i ∙ e ∙ sym (ap (λ (z : View K). z.ahead) j)
 
   -- two skips of a run
-  module _ (a b : ℕ) (run : List ℕ → List ℕ) (c d : ℕ) (r : Skims p true a (run v.ahead) c v u) (s : Skims q true b (run y.ahead) d y x) where
+  module _ (a b : Look) (run : List ℕ → List ℕ) (c d : ℕ) (r : Skims true a (run v.ahead) c v u) (s : Skims true b (run y.ahead) d y x) where
     skim_count : c ≡ d
     skim_count = r.number ∙ ap (λ z. length (run z)) e ∙ sym s.number
 
@@ -48,8 +47,8 @@ module _ (p q : Bool) (m n : ℕ) (f g : ℕ → ℕ) (v u y x : View) (l o : Li
     skim_ahead = r.ahead ∙ (λ t. drop (skim_count t) (e t)) ∙ sym s.ahead
 
   -- two fetches of a run into equal rooms
-  module _ (room : l.room ≡ o.room) (filled : l.filled ≡ o.filled) (a b : ℕ) (run : List ℕ → List ℕ) (c d : Fetched) (r : Fetches p true a (run v.ahead) l.room l.filled c l.left v u)
-      (s : Fetches q true b (run y.ahead) o.room o.filled d o.left y x) where
+  module _ (room : l.room ≡ o.room) (filled : l.filled ≡ o.filled) (a b : Look) (run : List ℕ → List ℕ) (c d : Fetched) (r : Fetches true a (run v.ahead) l.room l.filled c l.left v u)
+      (s : Fetches true b (run y.ahead) o.room o.filled d o.left y x) where
     part_same : part l.room l.filled (run v.ahead) ≡ part o.room o.filled (run y.ahead)
     part_same t = part (room t) (filled t) (run (e t))
 
@@ -67,7 +66,7 @@ module _ (p q : Bool) (m n : ℕ) (f g : ℕ → ℕ) (v u y x : View) (l o : Li
     fetch_ahead = r.ahead ∙ (λ t. drop (length (part_same t)) (e t)) ∙ sym s.ahead
 
   scans : (k : ScanCall) → (scan_sort k).whole ≡ true → room_of (Scan k) l.room ≡ room_of (Scan k) o.room → filled_of (Scan k) l.filled ≡ filled_of (Scan k) o.filled
-      → Scans p k l v u → Scans q k o y x → Common (Scan k) l o u x
+      → Scans k l v u → Scans k o y x → Common (Scan k) l o u x
   scans (SkipRun k) _ _ _ (c, i, r) (d, j, s) = (
     told (Count c) (Count d) i.answer j.answer (ap (λ z. (6, z ∷ [])) (skim_count _ _ (run_skipped k) c d r s)),
     refl,
@@ -95,47 +94,51 @@ module _ (p q : Bool) (m n : ℕ) (f g : ℕ → ℕ) (v u y x : View) (l o : Li
   scans (SkipPlainScalarChunk count in_flow) h _ _ r s = absurd (never h)
   scans (FetchPlainScalarChunk count in_flow) h _ _ r s = absurd (never h)
 
-  one : (k : Call) → (sort_of k).compared ≡ true → (sort_of k).plain ≡ true → room_of k l.room ≡ room_of k o.room → filled_of k l.filled ≡ filled_of k o.filled
-      → (sort_of k).reaches ≤ v.window → (sort_of k).reaches ≤ y.window → Upto (sort_of k).reaches f g → Means p m f k l v u → Means q n g k o y x → Common k l o u x
-  one (Lookahead c) _ _ _ _ _ _ _ (i, r) (j, s) = (told Nothing Nothing i.answer j.answer refl, refl, r.ahead ∙ e ∙ sym s.ahead)
-  one (Added c) h _ _ _ _ _ _ r s = absurd (never h)
-  one LookCh _ _ _ _ _ _ _ (c, i, r, k) (d, j, s, z) = (
-    told (Character c) (Character d) i.answer j.answer (ap (λ z. (1, z ∷ [])) (k ∙ ap (λ z. get_or z 0 0) e ∙ sym z)),
-    refl,
-    r.ahead ∙ e ∙ sym s.ahead,
-  )
-  one NextCh _ _ _ _ _ _ _ (c, i, r) (d, j, s) = (
-    told (Next c) (Next d) i.answer j.answer (ap (λ (z : Option ℕ). (2, next_values z)) (r.next ∙ ap first_of e ∙ sym s.next)),
-    refl,
-    r.ahead ∙ e ∙ sym s.ahead,
-  )
-  one Read _ _ _ _ _ _ _ (c, i, r) (d, j, s) = (
-    told (Character c) (Character d) i.answer j.answer (ap (λ z. (1, z ∷ [])) (r.character ∙ ap (λ z. get_or z 0 0) e ∙ sym s.character)),
-    refl,
-    r.ahead ∙ ap (drop 1) e ∙ sym s.ahead,
-  )
-  one ReadNonBreakz _ _ _ _ _ _ _ (c, i, r) (d, j, s) =
-      let same : c ≡ d = r.character ∙ ap first_in_line e ∙ sym s.character in (
-        told (Next c) (Next d) i.answer j.answer (ap (λ (z : Option ℕ). (2, next_values z)) same),
-        refl,
-        r.ahead ∙ (λ t. drop (taken_by (same t)) (e t)) ∙ sym s.ahead,
-      )
-  one Skip _ _ _ _ _ _ _ (i, r) (j, s) = (told Nothing Nothing i.answer j.answer refl, refl, r.ahead ∙ ap (drop 1) e ∙ sym s.ahead)
-  one (SkipN c) _ _ _ _ _ _ _ (i, r) (j, s) = (told Nothing Nothing i.answer j.answer refl, refl, r.ahead ∙ ap (drop c) e ∙ sym s.ahead)
-  one Peek _ _ _ _ _ _ w (i, r) (j, s) =
-      (told (Character (f 0)) (Character (g 0)) i.answer j.answer (ap (λ z. (1, z ∷ [])) (w 0 (omega arith))), refl, rested r s)
-  one (PeekNth c) _ _ _ _ _ _ w (i, r) (j, s) =
-      (told (Character (f c)) (Character (g c)) i.answer j.answer (ap (λ z. (1, z ∷ [])) (w c (omega arith))), refl, rested r s)
-  one (TestCall t) _ plain _ _ h k w (c, i, r, a) (d, j, s, b) = (
-    told (Tested c) (Tested d) i.answer j.answer
-        (ap (λ (z : ℕ × List ℕ). (3, z.0 ∷ z.1)) (tests_same t f g v y (outcome flag c) (outcome flag d) e h k plain w r s)),
-    refl,
-    rested a b,
-  )
-  one (Scan k) _ whole room filled _ _ _ r s = scans k whole room filled r s
-  one TakeSourceError h _ _ _ _ _ _ r s = absurd (never h)
-  one Open h _ _ _ _ _ _ r s = absurd (never h)
-  one Close h _ _ _ _ _ _ r s = absurd (never h)
+  module _ (s t : Shown) (fs : Faithful s v) (ft : Faithful t y) where
+    one : (k : Call) → (sort_of k).compared ≡ true → (sort_of k).plain ≡ true → room_of k l.room ≡ room_of k o.room → filled_of k l.filled ≡ filled_of k o.filled
+        → (sort_of k).reaches ≤ v.window → (sort_of k).reaches ≤ y.window → Means s k l v u → Means t k o y x → Common k l o u x
+    one (Lookahead c) _ _ _ _ _ _ (i, p) (j, q) = (told Nothing Nothing i.answer j.answer refl, refl, p.ahead ∙ e ∙ sym q.ahead)
+    one LookCh _ _ _ _ _ _ (c, i, p, k) (d, j, q, z) = (
+      told (Character c) (Character d) i.answer j.answer (ap (λ z. (1, z ∷ [])) (k ∙ ap (λ z. get_or z 0 0) e ∙ sym z)),
+      refl,
+      p.ahead ∙ e ∙ sym q.ahead,
+    )
+    one NextCh _ _ _ _ _ _ (c, i, p) (d, j, q) = (
+      told (Next c) (Next d) i.answer j.answer (ap (λ (z : Option ℕ). (2, next_values z)) (p.next ∙ ap first_of e ∙ sym q.next)),
+      refl,
+      p.ahead ∙ e ∙ sym q.ahead,
+    )
+    one Read _ _ _ _ _ _ (c, i, p) (d, j, q) = (
+      told (Character c) (Character d) i.answer j.answer (ap (λ z. (1, z ∷ [])) (p.character ∙ ap (λ z. get_or z 0 0) e ∙ sym q.character)),
+      refl,
+      p.ahead ∙ ap (drop 1) e ∙ sym q.ahead,
+    )
+    one ReadNonBreakz _ _ _ _ _ _ (c, i, p) (d, j, q) =
+        let same : c ≡ d = p.character ∙ ap first_in_line e ∙ sym q.character in (
+          told (Next c) (Next d) i.answer j.answer (ap (λ (z : Option ℕ). (2, next_values z)) same),
+          refl,
+          p.ahead ∙ (λ t. drop (taken_by (same t)) (e t)) ∙ sym q.ahead,
+        )
+    one Skip _ _ _ _ _ _ (i, p) (j, q) = (told Nothing Nothing i.answer j.answer refl, refl, p.ahead ∙ ap (drop 1) e ∙ sym q.ahead)
+    one (SkipN c) _ _ _ _ _ _ (i, p) (j, q) = (told Nothing Nothing i.answer j.answer refl, refl, p.ahead ∙ ap (drop c) e ∙ sym q.ahead)
+    one Peek _ _ _ _ h k (i, p) (j, q) = (
+      told (Character (s.at 0)) (Character (t.at 0)) i.answer j.answer (ap (λ z. (1, z ∷ [])) (shown_same s t v y e fs ft 1 h k 0 (omega arith))),
+      refl,
+      rested p q,
+    )
+    one (PeekNth c) _ _ _ _ h k (i, p) (j, q) = (
+      told (Character (s.at c)) (Character (t.at c)) i.answer j.answer (ap (λ z. (1, z ∷ [])) (shown_same s t v y e fs ft (c + 1) h k c (omega arith))),
+      refl,
+      rested p q,
+    )
+    one (TestCall which) _ plain _ _ h k (c, i, p, a) (d, j, q, b) = (
+      told (Tested c) (Tested d) i.answer j.answer
+          (ap (λ (z : ℕ × List ℕ). (3, z.0 ∷ z.1)) (p ∙ tests_same s t v y e fs ft which h k plain ∙ sym q)),
+      refl,
+      rested a b,
+    )
+    one (Scan k) _ whole room filled _ _ p q = scans k whole room filled p q
+    one _ h _ _ _ _ _ _ _ = absurd (never h)
 
 -- the lines that are compared
 keep : List Line → List Line
@@ -165,97 +168,70 @@ answers_keep (l ∷ ls) =
     [ true ↦ ap (λ r. got l ∷ r) (answers_keep ls) | false ↦ answers_keep ls ]
 
 -- the compared lines, each performed by an input with `a` ahead and a window of at least the reach
-abbrev Only : Bool → ℕ → List Line → List ℕ → ℕ → Type 0
-Only p n [] a reach = Unit {0}
-Only p n (l ∷ ls) a reach =
-    (v u : View)
+abbrev Only : (H : Type 0) → List Line → List ℕ → ℕ → Type 0
+Only H [] a reach = Unit {0}
+Only H (l ∷ ls) a reach =
+    (v u : View H)
     × (v.ahead ≡ a)
     × (reach ≤ v.window)
     × ((sort_of l.call).compared ≡ true)
-    × Performed p n l v u
-    × Only p n ls u.ahead (max reach (sort_of l.call).lengthens)
+    × Performed l v u
+    × Only H ls u.ahead (max reach (sort_of l.call).lengthens)
 
 -- a call that is not compared leaves what is ahead
-uncompared : (p : Bool) (n : ℕ) (f : ℕ → ℕ) (k : Call) (l : Line) (v u : View) → (sort_of k).compared ≡ false → Means p n f k l v u → u.ahead ≡ v.ahead
-uncompared p n f (Lookahead c) l v u h r = absurd (never (sym h))
-uncompared p n f (Added c) l v u h (i, r) = r.ahead
-uncompared p n f LookCh l v u h r = absurd (never (sym h))
-uncompared p n f NextCh l v u h r = absurd (never (sym h))
-uncompared p n f Read l v u h r = absurd (never (sym h))
-uncompared p n f ReadNonBreakz l v u h r = absurd (never (sym h))
-uncompared p n f Skip l v u h r = absurd (never (sym h))
-uncompared p n f (SkipN c) l v u h r = absurd (never (sym h))
-uncompared p n f Peek l v u h r = absurd (never (sym h))
-uncompared p n f (PeekNth c) l v u h r = absurd (never (sym h))
-uncompared p n f (TestCall t) l v u h r = absurd (never (sym h))
-uncompared p n f (Scan k) l v u h r = absurd (never (sym h))
-uncompared p n f TakeSourceError l v u h (c, i, r) = r.ahead
-uncompared p n f Open l v u h (i, r) = ap (λ (z : View). z.ahead) r
-uncompared p n f Close l v u h (c, i, r) = r.looks.ahead
+uncompared : {H : Type 0} (s : Shown) (k : Call) (l : Line) (v u : View H) → (sort_of k).compared ≡ false → Means s k l v u → u.ahead ≡ v.ahead
+uncompared s (Added c) l v u h (i, r) = r.ahead
+uncompared s TakeSourceError l v u h (c, i, r) = r.ahead
+uncompared {H} s Open l v u h (i, r) = ap (λ (z : View H). z.ahead) r
+uncompared s Close l v u h (c, i, r) = r.looks.ahead
+uncompared s _ l v u h r = absurd (never (sym h))
 
 -- the reach is lengthened by no more than the lookahead that is asked for
-lengthened : (p : Bool) (k : Call) (l : Line) → (sort_of k).lengthens ≤ min 16 (asks p k l)
-lengthened p (Lookahead c) l = omega arith
-lengthened p (Added c) l = omega arith
-lengthened p LookCh l = omega arith
-lengthened p NextCh l = omega arith
-lengthened p Read l = omega arith
-lengthened p ReadNonBreakz l = omega arith
-lengthened p Skip l = omega arith
-lengthened p (SkipN c) l = omega arith
-lengthened p Peek l = omega arith
-lengthened p (PeekNth c) l = omega arith
-lengthened p (TestCall t) l = omega arith
-lengthened p (Scan k) l = omega arith
-lengthened p TakeSourceError l = omega arith
-lengthened p Open l = omega arith
-lengthened p Close l = omega arith
+lengthened : (manner : Manner) (k : Call) (l : Line) → (sort_of k).lengthens ≤ min 16 (asks manner k l)
+lengthened manner (Lookahead c) l = omega arith
+lengthened manner _ l = omega arith
 
-only : (p : Bool) (n : ℕ) → 16 ≤ n → (ls : List Line) (v w : View) (reach : ℕ) → Sound v → reach ≤ v.window → Ran p n ls v w → Only p n (keep ls) v.ahead reach
-unfolding keep
-only p n h [] v w reach s wide r = tt
-only p n h (l ∷ ls) v w reach s wide (u, perf, sound, rest) = go (sort_of l.call).compared refl (λ k wide. only p n h ls u w k sound wide rest)
-  where
-    f : Facts p l.call l v u
-    f = facts p n h perf.0 v u s l.call l perf.2
+module _ {H : Type 0} where
+  only : (ls : List Line) (v w : View H) (reach : ℕ) → Sound v → reach ≤ v.window → Ran ls v w → Only H (keep ls) v.ahead reach
+  unfolding keep
+  only [] v w reach s wide r = tt
+  only (l ∷ ls) v w reach s wide (u, perf, sound, rest) = go (sort_of l.call).compared refl (λ k wide. only ls u w k sound wide rest)
+    where
+      f : Facts l.call l v u
+      f = facts perf.0 v u s l.call l perf.2
 
-    go : (b : Bool) → (sort_of l.call).compared ≡ b → ((k : ℕ) → k ≤ u.window → Only p n (keep ls) u.ahead k)
-        → Only p n (cond b (l ∷ keep ls) (keep ls)) v.ahead reach
-    go true e more =
-        (v, u, refl, wide, e, perf, more (max reach (sort_of l.call).lengthens) (omega (arith, f.wide, f.keeps.window, lengthened p l.call l)))
-    go false e more =
-        subst (λ (a : List ℕ). Only p n (keep ls) a reach) (uncompared p n perf.0 l.call l v u e perf.2) (more reach (omega (arith, f.keeps.window)))
+      go : (b : Bool) → (sort_of l.call).compared ≡ b → ((k : ℕ) → k ≤ u.window → Only H (keep ls) u.ahead k)
+          → Only H (cond b (l ∷ keep ls) (keep ls)) v.ahead reach
+      go true e more =
+          (v, u, refl, wide, e, perf, more (max reach (sort_of l.call).lengthens) (omega (arith, f.wide, f.keeps.window, lengthened v.manner l.call l)))
+      go false e more =
+          subst (λ (a : List ℕ). Only H (keep ls) a reach) (uncompared perf.0 l.call l v u e perf.2) (more reach (omega (arith, f.keeps.window)))
 
--- what two inputs with the same ahead show within their windows
-shown_same : (f g : ℕ → ℕ) (v y : View) (reach far : ℕ) → far ≤ reach → reach ≤ v.window → reach ≤ y.window → v.ahead ≡ y.ahead → Faithful f v → Faithful g y → Upto far f g
-shown_same f g v y reach far k h i e p q n l = p n (omega arith) ∙ ap (λ z. get_or z n 0) e ∙ sym (q n (omega arith))
+module _ (H K : Type 0) where
+  same_answers : (ls ms : List Line) (a b : List ℕ) (reach : ℕ) → Only H ls a reach → Only K ms b reach → all_calls ls ≡ all_calls ms
+      → Listed reach (all_calls ls) → a ≡ b → all_answers ls ≡ all_answers ms
+  same_answers [] [] a b reach r s g i e = refl
+  same_answers [] (m ∷ ms) a b reach r s g i e = let z : ◌≡◌ {A = ℕ} 0 (suc (length (all_calls ms))) = ap length g in absurd (omega arith)
+  same_answers (l ∷ ls) [] a b reach r s g i e = let z : ◌≡◌ {A = ℕ} (suc (length (all_calls ls))) 0 = ap length g in absurd (omega arith)
+  same_answers (l ∷ ls) (m ∷ ms) a b reach (v, u, va, vw, c, (f, ff, fm), r) (y, x, ya, yw, d, (h, hh, hm), s) g (plain, here, i) e =
+      let same : given l ≡ given m = head-eq_of_cons-eq g in
+      let call : l.call ≡ m.call = ap (λ (z : Given). z.call) same in
+      let room = ap (λ (z : Given). z.room) same ∙ sym (ap (λ (k : Call). room_of k m.room) call) in
+      let filled = ap (λ (z : Given). z.filled) same ∙ sym (ap (λ (k : Call). filled_of k m.filled) call) in
+      let common =
+      one v u y x l m (va ∙ e ∙ sym ya) f h ff hh l.call c plain room filled (omega arith) (omega arith) fm
+      (subst (λ (k : Call). Means h k m y x) (sym call) hm)
+      in
+      let rest =
+      same_answers ls ms u.ahead x.ahead (max reach (sort_of l.call).lengthens) r
+      (subst (λ (k : Call). Only K ms x.ahead (max reach (sort_of k).lengthens)) (sym call) s) (tail-eq_of_cons-eq g) i common.2
+      in
+      let left = common.1 ∙ ap (λ (k : Call). room_of k m.left) call in
+      λ j. record { answer = common.0 j; left = left j } ∷ rest j
 
-same_answers : (p q : Bool) (n o : ℕ) (ls ms : List Line) (a b : List ℕ) (reach : ℕ) → Only p n ls a reach → Only q o ms b reach → all_calls ls ≡ all_calls ms
-    → Listed reach (all_calls ls) → a ≡ b → all_answers ls ≡ all_answers ms
-same_answers p q n o [] [] a b reach r s g i e = refl
-same_answers p q n o [] (m ∷ ms) a b reach r s g i e = let z : ◌≡◌ {A = ℕ} 0 (suc (length (all_calls ms))) = ap length g in absurd (omega arith)
-same_answers p q n o (l ∷ ls) [] a b reach r s g i e = let z : ◌≡◌ {A = ℕ} (suc (length (all_calls ls))) 0 = ap length g in absurd (omega arith)
-same_answers p q n o (l ∷ ls) (m ∷ ms) a b reach (v, u, va, vw, c, (f, ff, fm), r) (y, x, ya, yw, d, (h, hh, hm), s) g (plain, here, i) e =
-    let same : given l ≡ given m = head-eq_of_cons-eq g in
-    let call : l.call ≡ m.call = ap (λ (z : Given). z.call) same in
-    let room = ap (λ (z : Given). z.room) same ∙ sym (ap (λ (k : Call). room_of k m.room) call) in
-    let filled = ap (λ (z : Given). z.filled) same ∙ sym (ap (λ (k : Call). filled_of k m.filled) call) in
-    let ahead : v.ahead ≡ y.ahead = va ∙ e ∙ sym ya in
-    let upto = shown_same f h v y reach (sort_of l.call).reaches here vw yw ahead ff hh in
-    let common =
-    one p q n o f h v u y x l m ahead l.call c plain room filled (omega arith) (omega arith) upto fm
-    (subst (λ (k : Call). Means q o h k m y x) (sym call) hm)
-    in
-    let rest =
-    same_answers p q n o ls ms u.ahead x.ahead (max reach (sort_of l.call).lengthens) r
-    (subst (λ (k : Call). Only q o ms x.ahead (max reach (sort_of k).lengthens)) (sym call) s) (tail-eq_of_cons-eq g) i common.2
-    in
-    let left = common.1 ∙ ap (λ (k : Call). room_of k m.left) call in
-    λ j. record { answer = common.0 j; left = left j } ∷ rest j
-
-pub alike : (p q : Bool) (n o : ℕ) → 16 ≤ n → 16 ≤ o → (ls ms : List Line) (v w y x : View) → Sound v → Sound y → Ran p n ls v w → Ran q o ms y x → Same ls ms v y
-alike p q n o h k ls ms v w y x s t r u g i e =
+pub alike : {H K : Type 0} (ls ms : List Line) (v w : View H) (y x : View K) → Sound v → Sound y → Ran ls v w → Ran ms y x → Same ls ms v y
+alike {H} {K} ls ms v w y x s t r u g i e =
     answers_keep ls
-    ∙ same_answers p q n o (keep ls) (keep ms) v.ahead y.ahead 0 (only p n h ls v w 0 s (omega arith) r) (only q o k ms y x 0 t (omega arith) u)
+    ∙ same_answers H K (keep ls) (keep ms) v.ahead y.ahead 0 (only ls v w 0 s (omega arith) r) (only ms y x 0 t (omega arith) u)
     (sym (calls_keep ls) ∙ g ∙ calls_keep ms) (subst (λ (z : List Given). Listed 0 z) (calls_keep ls) i) e
     ∙ sym (answers_keep ms)

@@ -1,16 +1,17 @@
 -- Fronts of what is ahead, and the bytes of a fetch. Assumes nothing.
-use Rattle.std.proofs.Common.{◌≡◌, ℕ, ◌+◌, ◌-◌, ◌≤◌, Bool, true, false, cond, not, ◌&&◌, T, leb, List, [], ◌∷◌, ◌++◌, length, get_or, take, drop, sym, refl, ap, ◌∙◌, subst, append_assoc, arith, nltb→le, length-append, take-append-drop, length-take-le, drop_at}
+use Rattle.std.proofs.Common.{◌≡◌, ℕ, ◌+◌, ◌-◌, ◌≤◌, Bool, true, false, cond, not, ◌&&◌, T, List, [], ◌∷◌, ◌++◌, length, take, drop, sym, refl, ap, ◌∙◌, subst, append_assoc, arith, nltb→le, length-append, take-append-drop, length-take-le, drop_at}
 use lib.Seq.{take-append_seam, drop-append_seam}
-use lib.Utf8.{scalar, scalars, encode, encodes}
+use lib.Utf8.{scalar, scalars, encodes}
 use Rattle.std.specs.Str.{chars}
 use Rattle.std.proofs.lemmas.Str.{chars-encodes}
 use Rattle.utf8.specs.Room.{laid}
 use Rattle.char_traits.specs.Chars.{blank, alpha, yaml_non_space, not_breakz, printable_not_breakz, plain_safe}
-use Rattle.input.specs.Calls.{none_left}
 use Rattle.runs.specs.declared.SkipTabs.{SkipTabs}
 use Rattle.runs.specs.declared.Colon.TheVariants.{Free, Leads}
-use Rattle.runs.specs.Runs.{goes, run_by, plain_run, separates, blanks_of, after_blanks, at_hash, comment_of, eol_run}
+use Rattle.runs.specs.Runs.{goes, run_by, plain_run, separates, blanks_of, eol_run}
 use Rattle.runs.specs.Rooms.{fitting, beyond, part}
+use Rattle.runs.proofs.Fronts.{run_front, eol_front}
+use Rattle.runs.proofs.Longest.{fitting_longest}
 use Rattle.reading.specs.declared.call.SkipCall.{SkipCall}
 use Rattle.reading.specs.declared.call.SkipCall.TheVariants.{WhileBlank, WhileNonBreakz, PlainRun as SkipPlainRun}
 use Rattle.reading.specs.declared.call.FetchCall.{FetchCall}
@@ -27,57 +28,41 @@ front_splits xs ys (rest, e) = e ∙ ap (λ r. xs ++ r) (sym (ap (drop (length x
 pub front_short : (xs ys : List ℕ) → Front xs ys → length xs ≤ length ys
 front_short xs ys (rest, e) = omega (arith, ap length e ∙ length-append xs rest)
 
-one_more : (c : ℕ) (xs ys : List ℕ) → Front xs ys → Front (c ∷ xs) (c ∷ ys)
-one_more c xs ys (rest, e) = (rest, ap (λ r. c ∷ r) e)
-
--- a front of a front, and a front of what a front leaves
+-- a front of a front
 further : (xs ys zs : List ℕ) → Front xs ys → Front ys zs → Front xs zs
 further xs ys zs (r, e) (s, i) = (r ++ s, i ∙ ap (λ t. t ++ s) e ∙ append_assoc xs r s)
 
-followed : (xs ys a : List ℕ) → Front xs a → Front ys (drop (length xs) a) → Front (xs ++ ys) a
-followed xs ys a f (s, i) = (s, front_splits xs a f ∙ ap (λ t. xs ++ t) i ∙ sym (append_assoc xs ys s))
-
-take_front : (n : ℕ) (xs : List ℕ) → Front (take n xs) xs
-take_front n xs = (drop n xs, sym (take-append-drop n xs))
-
-run_front : (go : ℕ → ℕ → Bool) (a : List ℕ) → Front (run_by go a) a
-run_front go [] = ([], refl)
-run_front go (c ∷ cs) =
-    elim (go c (get_or cs 0 0)) as (λ b. Front (cond b (c ∷ run_by go cs) []) (c ∷ cs))
-    [ true ↦ one_more c (run_by go cs) cs (run_front go cs) | false ↦ (c ∷ cs, refl) ]
-
+-- what fits is a front
 fitting_front : (free : ℕ) (cs : List ℕ) → Front (fitting free cs) cs
-fitting_front free [] = ([], refl)
-fitting_front free (c ∷ cs) =
-    elim (leb (length (encode c)) free) as (λ b. Front (cond b (c ∷ fitting (free - length (encode c)) cs) []) (c ∷ cs))
-    [ true ↦ one_more c (fitting (free - length (encode c)) cs) cs (fitting_front (free - length (encode c)) cs) | false ↦ (c ∷ cs, refl) ]
+fitting_front free cs =
+    let n : ℕ = length (fitting free cs) in
+    (drop n cs, sym (take-append-drop n cs) ∙ ap (λ xs. xs ++ drop n cs) (sym (fitting_longest free cs).front))
 
 -- each run is a front of what is ahead
+run : (go : ℕ → ℕ → Bool) (a : List ℕ) → Front (run_by go a) a
+run go a = (drop (length (run_by go a)) a, run_front go a)
+
 pub skip_front : (k : SkipCall) (a : List ℕ) → Front (run_skipped k a) a
-skip_front WhileBlank a = run_front (goes blank Free) a
-skip_front WhileNonBreakz a = run_front (goes printable_not_breakz Free) a
-skip_front (SkipPlainRun in_flow) a = run_front (goes (plain_safe in_flow) Leads) a
+skip_front WhileBlank a = run (goes blank Free) a
+skip_front WhileNonBreakz a = run (goes printable_not_breakz Free) a
+skip_front (SkipPlainRun in_flow) a = run (goes (plain_safe in_flow) Leads) a
 
 pub fetch_front : (k : FetchCall) (a : List ℕ) → Front (run_fetched k a) a
-fetch_front WhileIsAlpha a = run_front (goes alpha Free) a
-fetch_front WhileIsYamlNonSpace a = run_front (goes yaml_non_space Free) a
-fetch_front BlockScalarLine a = run_front (goes not_breakz Free) a
-fetch_front (FetchPlainRun in_flow) a = run_front (goes (plain_safe in_flow) Leads) a
+fetch_front WhileIsAlpha a = run (goes alpha Free) a
+fetch_front WhileIsYamlNonSpace a = run (goes yaml_non_space Free) a
+fetch_front BlockScalarLine a = run (goes not_breakz Free) a
+fetch_front (FetchPlainRun in_flow) a = run (goes (plain_safe in_flow) Leads) a
 
 pub chunk_front : (wants : ℕ) (in_flow : Bool) (a : List ℕ) → Front (take wants (plain_run in_flow a)) a
 chunk_front wants in_flow a =
-    further (take wants (plain_run in_flow a)) (plain_run in_flow a) a (take_front wants (plain_run in_flow a)) (run_front (goes (plain_safe in_flow) Leads) a)
+    further (take wants (plain_run in_flow a)) (plain_run in_flow a) a (drop wants (plain_run in_flow a), sym (take-append-drop wants (plain_run in_flow a)))
+    (run (goes (plain_safe in_flow) Leads) a)
 
 pub blanks_front : (tabs : SkipTabs) (a : List ℕ) → Front (blanks_of tabs a) a
-blanks_front tabs a = run_front (goes (separates tabs) Free) a
+blanks_front tabs a = run (goes (separates tabs) Free) a
 
-pub eol_front : (tabs : SkipTabs) (a : List ℕ) → Front (eol_run tabs a) a
-eol_front tabs a = followed (blanks_of tabs a) _ a (blanks_front tabs a) (comment (none_left (blanks_of tabs a)) (after_blanks tabs a))
-  where
-    comment : (b : Bool) (r : List ℕ) → Front (cond b [] (comment_of r)) r
-    comment true r = (r, refl)
-    comment false r =
-        elim (at_hash r) as (λ b. Front (cond b (run_by (goes not_breakz Free) r) []) r) [ true ↦ run_front (goes not_breakz Free) r | false ↦ (r, refl) ]
+pub line_front : (tabs : SkipTabs) (a : List ℕ) → Front (eol_run tabs a) a
+line_front tabs a = (drop (length (eol_run tabs a)) a, eol_front tabs a)
 
 pub part_front : (room : List ℕ) (filled : ℕ) (run a : List ℕ) → Front run a → Front (part room filled run) a
 part_front room filled run a f =

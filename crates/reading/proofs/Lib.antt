@@ -1,4 +1,4 @@
-pub mod Made
+pub mod Performing
 pub mod Runs
 pub mod Fronts
 pub mod Facts

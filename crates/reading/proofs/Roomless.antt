@@ -48,7 +48,7 @@ unfolding bare
 listed_bare reach [] h = tt
 listed_bare reach (k ∷ ks) (_, plain, here, more) = (plain, here, listed_bare (max reach (sort_of k).lengthens) ks more)
 
-pub roomless : (ls ms : List Line) (v u : View) → Same ls ms v u → called ls ≡ called ms → Roomless 0 (called ls) → v.ahead ≡ u.ahead → said ls ≡ said ms
+pub roomless : {H K : Type 0} (ls ms : List Line) (v : View H) (u : View K) → Same ls ms v u → called ls ≡ called ms → Roomless 0 (called ls) → v.ahead ≡ u.ahead → said ls ≡ said ms
 roomless ls ms v u same c h e =
     let one = calls_bare ls 0 h in
     let other = calls_bare ms 0 (subst (λ (ks : List Call). Roomless 0 ks) c h) in

@@ -1,3 +1,4 @@
 pub mod Line
 pub mod Sorts
 pub mod Reading
+pub mod Beside

@@ -112,7 +112,8 @@ pub enum Answer {
     FetchedChunk(bool, Fetched),
 }
 
-/// One call of a list with the room that it brings, if it is a fetch, and its answer once it was made.
+/// One call of a list with the room that it brings, if it is a fetch, and its answer once it was
+/// made.
 #[derive(Drop)]
 pub struct Step {
     pub call: Call,
@@ -138,7 +139,8 @@ impl Step {
         }
     }
 
-    /// A call that is still to be made, with the room that it brings, of which so many bytes are filled.
+    /// A call that is still to be made, with the room that it brings, of which so many bytes are
+    /// filled.
     pub fn with_room(call: Call, room: Vec<u8>, filled: usize) -> Step
         ensures call { result.call ≡ call }
         ensures room { room_bytes result.room ≡ room.items }

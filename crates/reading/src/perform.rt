@@ -1,9 +1,10 @@
 //! One call, made of an input of any kind.
 
-ghost use Rattle.std.specs.Prelude.{◌≡◌};
+ghost use Rattle.std.specs.Prelude.{◌≡◌, is_some};
 ghost use Rattle.error.specs.Numbers.{outcome};
 ghost use Rattle.input.specs.Tests.{flag};
-ghost use Rattle.reading.specs.Line.{class_of, Tests, line_of, Means, Performed};
+ghost use Rattle.reading.specs.Reading.{opens};
+ghost use Rattle.reading.specs.Line.{class_of, tested, line_of, Means, Performed};
 
 use crate::call::{Answer, Call, ClassTest, MarkerTest, Step, Test};
 use crate::scanner::Scanner;
@@ -12,7 +13,7 @@ use input::ticket::Reading;
 use input::{Input, calls};
 
 fn class_test<I: Input>(input: &I, class: ClassTest) -> bool
-    ensures { result ≡ class_of class (I.Input.shown input.now 0) }
+    ensures { result ≡ class_of class ((I.Input.shown input.now).at 0) }
 {
     match class {
         ClassTest::BlankOrBreak => calls::next_is_blank_or_break(input),
@@ -28,7 +29,7 @@ fn class_test<I: Input>(input: &I, class: ClassTest) -> bool
 
 /// Makes a test.
 pub fn test<I: Input>(input: &I, test: Test) -> Result<bool, Refusal>
-    ensures { Tests test (I.Input.shown input.now) (I.Input.view input.now) (outcome flag result) }
+    ensures { outcome flag result ≡ tested test (I.Input.shown input.now) }
 {
     match test {
         Test::Z => Ok(input.next_is_z()),
@@ -44,7 +45,8 @@ pub fn test<I: Input>(input: &I, test: Test) -> Result<bool, Refusal>
     }
 }
 
-/// Makes a call; a fetch has the room that is lent. The ticket of an open reading is handed on, and closing takes it.
+/// Makes a call; a fetch has the room that is lent. The ticket of an open reading is handed on, and
+/// closing takes it.
 pub fn answer_to<I: Input, S: Scanner<I>>(
     input: &mut I,
     call: Call,
@@ -52,7 +54,10 @@ pub fn answer_to<I: Input, S: Scanner<I>>(
     filled: usize,
     held: Option<Reading>,
 ) -> (Answer, Option<Reading>)
-    ensures { Means I.Input.prompt I.Input.most (I.Input.shown input.old) call (record { call = call; room = room.old; filled = filled; answer = result.0; left = room.new }) (I.Input.view input.old) (I.Input.view input.new) }
+    ensures ticket { is_some result.1 ≡ opens call (is_some held) }
+    ensures means { Means (I.Input.shown input.old) call
+        (record { call = call; room = room.old; filled = filled; answer = result.0; left = room.new })
+        (I.Input.view input.old) (I.Input.view input.new) }
 {
     match call {
         Call::Lookahead(n) | Call::Added(n) => {
@@ -92,7 +97,9 @@ pub fn perform<I: Input, S: Scanner<I>>(
 ) -> Option<Reading>
     ensures call { step.new.call ≡ step.old.call }
     ensures filled { step.new.filled ≡ step.old.filled }
-    ensures made { Performed I.Input.prompt I.Input.most (line_of step.old step.new) (I.Input.view input.old) (I.Input.view input.new) }
+    ensures ticket { is_some result ≡ opens step.old.call (is_some held) }
+    ensures made { Performed (line_of step.old step.new) (I.Input.view input.old)
+        (I.Input.view input.new) }
 {
     let (answer, next) = match &mut step.room {
         Some(room) => answer_to::<I, S>(input, step.call, room, step.filled, held),

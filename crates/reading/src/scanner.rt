@@ -2,7 +2,7 @@
 
 ghost use Rattle.std.specs.Prelude.{true};
 ghost use Rattle.runs.specs.Scans.{Skims, Fetches};
-ghost use Rattle.reading.specs.Line.{run_skipped, skip_asks, run_fetched, fetch_asks, Scans};
+ghost use Rattle.reading.specs.Line.{run_skipped, skip_look, run_fetched, fetch_look, Scans};
 
 use crate::call::{Answer, Call, FetchCall, ScanCall, SkipCall};
 use char_traits::class::{Alpha, Blank, PrintableNotBreakz, YamlNonSpace};
@@ -17,7 +17,9 @@ use scan::Scan;
 pub trait Scanner<I: Input> {
     /// Makes a scanning call; a fetch has the room that is lent.
     fn scan(input: &mut I, call: ScanCall, room: &mut [u8], filled: usize) -> Answer
-        ensures { Scans I.Input.prompt call (record { call = Call.Scan call; room = room.old; filled = filled; answer = result; left = room.new }) (I.Input.view input.old) (I.Input.view input.new) };
+        ensures { Scans call
+            (record { call = Call.Scan call; room = room.old; filled = filled; answer = result; left = room.new })
+            (I.Input.view input.old) (I.Input.view input.new) };
 }
 
 /// By the scanning calls of the input itself.
@@ -28,7 +30,9 @@ pub struct ByCharacter;
 
 /// Skips a run.
 fn skip_run<I: Scan>(input: &mut I, skip: SkipCall) -> usize
-    ensures { Skims I.Input.prompt true (skip_asks skip I.Input.prompt) (run_skipped skip (I.Input.view input.old).ahead) result (I.Input.view input.old) (I.Input.view input.new) }
+    ensures { let v = I.Input.view input.old in
+        Skims true (skip_look skip v.manner) (run_skipped skip v.ahead) result v
+        (I.Input.view input.new) }
 {
     match skip {
         SkipCall::WhileBlank => input.skip_while_blank(),
@@ -39,7 +43,9 @@ fn skip_run<I: Scan>(input: &mut I, skip: SkipCall) -> usize
 
 /// Fetches a run.
 fn fetch_run<I: Scan>(input: &mut I, fetch: FetchCall, room: &mut [u8], filled: usize) -> Fetched
-    ensures { Fetches I.Input.prompt true (fetch_asks fetch I.Input.prompt) (run_fetched fetch (I.Input.view input.old).ahead) room.old filled result room.new (I.Input.view input.old) (I.Input.view input.new) }
+    ensures { let v = I.Input.view input.old in
+        Fetches true (fetch_look fetch v.manner) (run_fetched fetch v.ahead) room.old filled result
+        room.new v (I.Input.view input.new) }
 {
     match fetch {
         FetchCall::WhileIsAlpha => input.fetch_while_is_alpha(room, filled),
@@ -51,22 +57,26 @@ fn fetch_run<I: Scan>(input: &mut I, fetch: FetchCall, room: &mut [u8], filled: 
 
 /// Skips a run, character by character.
 fn step_run<I: Input>(input: &mut I, skip: SkipCall) -> usize
-    ensures { Skims I.Input.prompt true (skip_asks skip I.Input.prompt) (run_skipped skip (I.Input.view input.old).ahead) result (I.Input.view input.old) (I.Input.view input.new) }
+    ensures { let v = I.Input.view input.old in
+        Skims true (skip_look skip v.manner) (run_skipped skip v.ahead) result v
+        (I.Input.view input.new) }
 {
     match skip {
-        SkipCall::WhileBlank => skip_while::<Blank, I>(input),
-        SkipCall::WhileNonBreakz => skip_while::<PrintableNotBreakz, I>(input),
+        SkipCall::WhileBlank => skip_while(input, &Blank),
+        SkipCall::WhileNonBreakz => skip_while(input, &PrintableNotBreakz),
         SkipCall::PlainRun(in_flow) => skip_plain(input, in_flow),
     }
 }
 
 /// Fetches a run, character by character.
 fn append_run<I: Input>(input: &mut I, fetch: FetchCall, room: &mut [u8], filled: usize) -> Fetched
-    ensures { Fetches I.Input.prompt true (fetch_asks fetch I.Input.prompt) (run_fetched fetch (I.Input.view input.old).ahead) room.old filled result room.new (I.Input.view input.old) (I.Input.view input.new) }
+    ensures { let v = I.Input.view input.old in
+        Fetches true (fetch_look fetch v.manner) (run_fetched fetch v.ahead) room.old filled result
+        room.new v (I.Input.view input.new) }
 {
     match fetch {
-        FetchCall::WhileIsAlpha => fetch_while::<Alpha, I>(input, room, filled),
-        FetchCall::WhileIsYamlNonSpace => fetch_while::<YamlNonSpace, I>(input, room, filled),
+        FetchCall::WhileIsAlpha => fetch_while(input, &Alpha, room, filled),
+        FetchCall::WhileIsYamlNonSpace => fetch_while(input, &YamlNonSpace, room, filled),
         FetchCall::BlockScalarLine => fetch_line(input, room, filled),
         FetchCall::PlainRun(in_flow) => fetch_plain(input, room, filled, in_flow),
     }

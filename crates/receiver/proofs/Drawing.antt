@@ -2,7 +2,7 @@
 use Rattle.std.proofs.Common.{◌≡◌, ℕ, true, false, List, [], ◌∷◌, ◌++◌, is_some, Ok, Some, None, Option, sym, refl, ap, ◌∙◌, subst, append_assoc}
 use Rattle.error.specs.Numbers.{Ending}
 use Rattle.input.proofs.Keeping.{never}
-use Rattle.source.specs.Steps.{Steps}
+use Rattle.source.proofs.Steps.{Steps}
 use Rattle.source.specs.Met.{coming, finishing}
 use Rattle.receiver.specs.declared.hold.Hold.{Hold}
 use Rattle.receiver.specs.declared.drawn.Drawn.{Drawn}
@@ -26,6 +26,7 @@ module _ {S : Type 0} (ahead : S → List ℕ) (ending : S → Ending) (x : Draw
     pub same : all_of ahead y ≡ all_of ahead x
     pub ends : finish ending y ≡ finish ending x
     pub stays : is_some x.met ≡ true → is_some y.met ≡ true
+    pub still : is_some x.met ≡ true → y.source ≡ x.source
 
   pub draw_more : (y : Drawn S) (c : ℕ) (hold : Hold) (t : S) → Drawing y → is_some y.met ≡ false → held hold ≡ held y.hold ++ (c ∷ [])
       → ahead y.source ≡ c ∷ ahead t → ending t ≡ ending y.source → Drawing (record { source = t; hold = hold; met = y.met })
@@ -39,4 +40,5 @@ module _ {S : Type 0} (ahead : S → List ℕ) (ending : S → Ending) (x : Draw
             ∙ d.same;
         ends = open_finish y.met (ending t) u ∙ e ∙ sym (open_finish y.met (ending y.source) u) ∙ d.ends;
         stays = d.stays;
+        still = λ m. absurd (never (sym u ∙ d.stays m));
       }

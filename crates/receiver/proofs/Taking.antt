@@ -4,7 +4,7 @@ use lib.Utf8.{encodes}
 use Rattle.error.specs.Limit.{text_limit}
 use Rattle.error.specs.Numbers.{Ending}
 use Rattle.source.specs.Steps.{Gives}
-use Rattle.input.specs.View.{View, Sound, New}
+use Rattle.input.specs.View.{View, Sound, Fresh}
 use Rattle.input.specs.Calls.{first_of, Takes}
 use Rattle.input.proofs.Keeping.{never, none_is}
 use Rattle.source.specs.Met.{coming}
@@ -13,7 +13,7 @@ use Rattle.receiver.specs.declared.drawn.Drawn.{Drawn}
 use Rattle.receiver.specs.declared.stash.Stash.{Stash}
 use Rattle.receiver.specs.Hold.{held, held_length}
 use Rattle.receiver.specs.Drawn.{coming_met, all_of, finish, Draws}
-use Rattle.receiver.specs.Stash.{seen}
+use Rattle.receiver.specs.Stash.{stash_manner, stash_making, seen}
 
 gives_first : (r : Option ℕ) (q rest come : List ℕ) → Gives r q rest → (length q < 16 → come ≡ []) → r ≡ first_of (q ++ come)
 gives_first None q rest come g none = sym (ap (λ xs. first_of (xs ++ come)) g.0 ∙ ap first_of (none (omega (arith, ap length g.0))))
@@ -26,14 +26,23 @@ gives_rest None q rest come g none =
 gives_rest (Some c) q rest come g none = sym (ap (λ xs. drop 1 (xs ++ come)) g)
 
 module _ {S : Type 0} (ahead : S → List ℕ) (ending : S → Ending) where
-  abbrev pub view_of : Drawn S → Bool → View
-  view_of y told = record { ahead = all_of ahead y; window = 16; ending = finish ending y; met = is_some y.met; told = told }
+  abbrev pub view_of : Drawn S → Bool → View S
+  view_of y told =
+      record {
+        ahead = all_of ahead y;
+        window = 16;
+        ending = finish ending y;
+        met = is_some y.met;
+        told = told;
+        manner = stash_manner;
+        held = y.source;
+      }
 
   pub none_coming : (x : Stash S) → x.drawn.hold.len < 16 → coming x.drawn.met (ahead x.drawn.source) ≡ []
   none_coming x h = coming_met x.drawn.met _ (x.full h)
 
   pub takes : (x : Stash S) (hold : Hold) (y : Drawn S) (r : Option ℕ) → Sound (seen ahead ending x) → Gives r (held x.drawn.hold) (held hold)
-      → Draws ahead ending (record { source = x.drawn.source; hold = hold; met = x.drawn.met }) y → Takes false r (seen ahead ending x) (view_of y x.told)
+      → Draws ahead ending (record { source = x.drawn.source; hold = hold; met = x.drawn.met }) y → Takes r (seen ahead ending x) (view_of y x.told)
   takes x hold y r sound g d =
       let q = held x.drawn.hold in
       let come = coming x.drawn.met (ahead x.drawn.source) in
@@ -41,9 +50,12 @@ module _ {S : Type 0} (ahead : S → List ℕ) (ending : S → Ending) where
       record {
         keeps =
             record {
+              manner = refl;
               ending = d.ends;
               window = omega arith;
               stays = d.stays;
+              still = d.still;
+              steady = λ _. omega arith;
               meets = λ e. d.stays (sound.waits (omega (arith, ap length (none_is (q ++ come) e))));
               narrow = λ h. absurd (never h);
               late = λ h. absurd (never h);
@@ -53,8 +65,19 @@ module _ {S : Type 0} (ahead : S → List ℕ) (ending : S → Ending) where
         first = gives_first r q (held hold) come g none;
       }
 
-  pub fresh : (source : S) (hold : Hold) (y : Drawn S) → held hold ≡ [] → length (encodes (ahead source)) ≤ text_limit
-      → Draws ahead ending (record { source = source; hold = hold; met = None }) y → (all_of ahead y ≡ ahead source) × New false (view_of y false)
-  fresh source hold y none short d =
+  pub fresh : (given : S → ℕ) (source : S) (hold : Hold) (y : Drawn S) → held hold ≡ [] → length (encodes (ahead source)) ≤ text_limit
+      → Draws ahead ending (record { source = source; hold = hold; met = None }) y → Fresh (stash_making ahead ending given source) (view_of y false)
+  fresh given source hold y none short d =
       let all : all_of ahead y ≡ ahead source = d.same ∙ ap (λ xs. xs ++ ahead source) none in
-      (all, record { short = subst (λ (xs : List ℕ). length (encodes xs) ≤ text_limit) (sym all) short; untold = refl; closed = λ h. absurd (never h); unmet = λ h. absurd (never h) })
+      record {
+        new =
+            record {
+              short = subst (λ (xs : List ℕ). length (encodes xs) ≤ text_limit) (sym all) short;
+              untold = refl;
+              closed = λ h. absurd (never h);
+              unmet = λ h. absurd (never h);
+            };
+        manner = refl;
+        all = all;
+        finish = d.ends;
+      }

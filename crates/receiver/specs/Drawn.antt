@@ -18,6 +18,8 @@ pub record Draws {S : Type 0} (ahead : S → List ℕ) (ending : S → Ending) (
   pub ends : finish ending y ≡ finish ending x
   pub stays : is_some x.met ≡ true → is_some y.met ≡ true
   pub full : y.hold.len < 16 → is_some y.met ≡ true
+  -- the source is not stepped once its ending was met
+  pub still : is_some x.met ≡ true → y.source ≡ x.source
 
 pub coming_met : (m : Option Ending) (cs : List ℕ) → is_some m ≡ true → coming m cs ≡ []
 coming_met None cs h = let z : ◌≡◌ {A = ℕ} 0 1 = cc in absurd (omega arith)

@@ -3,3 +3,4 @@ pub mod Packets
 pub mod Hold
 pub mod Drawn
 pub mod Stash
+pub mod Quote

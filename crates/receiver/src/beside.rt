@@ -1,7 +1,7 @@
 //! A receiver and an input of any other kind, taken through lists.
 
-ghost use Rattle.std.specs.Prelude.{false};
-ghost use Rattle.reading.specs.Reading.{log_of, SameCalls, Same, Account};
+ghost use Rattle.std.specs.Prelude.{◌≡◌, is_some};
+ghost use Rattle.reading.specs.Reading.{log_of, SameCalls, Same, Account, open_after};
 ghost use Rattle.receiver.specs.Packets.{packets_ahead, packets_ending};
 ghost use Rattle.receiver.specs.Stash.{seen};
 
@@ -27,9 +27,11 @@ pub fn receive_beside<I: Input>(
 ) -> (Option<Reading>, Option<Reading>)
     ensures one { SameCalls one.old one.new }
     ensures two { SameCalls two.old two.new }
+    ensures held { is_some result.0 ≡ open_after one.old (is_some held) }
+    ensures beside { is_some result.1 ≡ open_after two.old (is_some beside) }
     ensures same { Same (log_of one.old one.new) (log_of two.old two.new) (seen packets_ahead packets_ending receiver.old) (I.Input.view other.old) }
-    ensures receiver { Account false 16 (log_of one.old one.new) (seen packets_ahead packets_ending receiver.old) (seen packets_ahead packets_ending receiver.new) }
-    ensures other { Account I.Input.prompt I.Input.most (log_of two.old two.new) (I.Input.view other.old) (I.Input.view other.new) }
+    ensures receiver { Account (log_of one.old one.new) (seen packets_ahead packets_ending receiver.old) (seen packets_ahead packets_ending receiver.new) }
+    ensures other { Account (log_of two.old two.new) (I.Input.view other.old) (I.Input.view other.new) }
 {
     side_by_side_with::<Stash<Packets<'_>>, I, Own, ByCharacter>(
         receiver, other, one, two, held, beside,

@@ -8,7 +8,7 @@ use source::FallibleSource;
 impl<S: FallibleSource> Drawn<S> {
     /// Draws until sixteen are held or the ending is met.
     pub(crate) fn fill(&mut self)
-        ensures { Draws S.FallibleSource.ahead S.FallibleSource.ending self.old self.new }
+        ensures { Draws S.ahead S.ending self.old self.new }
     {
         while self.met.is_none() && self.hold.len < 16 {
             match self.source.step() {

@@ -1,9 +1,9 @@
-//! The stash as an input. Its window is always sixteen, and it meets its ending before it is due.
+//! The stash as an input. Its window is always sixteen, and it may meet its ending before it is due.
 
-ghost use Rattle.std.specs.Prelude.{◌≡◌, false};
-ghost use Rattle.input.specs.View.{New};
+ghost use Rattle.std.specs.Prelude.{◌≡◌};
+ghost use Rattle.input.specs.View.{Fresh};
 ghost use Rattle.input.specs.Calls.{Takes};
-ghost use Rattle.receiver.specs.Stash.{seen, stash_shows, stash_sound, stash_faithful, sixteen};
+ghost use Rattle.receiver.specs.Stash.{stash_making, seen, stash_shown, stash_sound, stash_faithful, sixteen};
 
 use crate::drawn::Drawn;
 use crate::hold::Hold;
@@ -19,9 +19,7 @@ const PLACES: usize = 16;
 impl<S: FallibleSource> Stash<S> {
     /// A stash over a source: all of the source's characters are ahead, and its ending is the source's.
     pub fn new(source: S) -> Stash<S>
-        ensures ahead { (seen S.FallibleSource.ahead S.FallibleSource.ending result).ahead ≡ S.FallibleSource.ahead source }
-        ensures ending { (seen S.FallibleSource.ahead S.FallibleSource.ending result).ending ≡ S.FallibleSource.ending source }
-        ensures fresh { New false (seen S.FallibleSource.ahead S.FallibleSource.ending result) }
+        ensures { Fresh (stash_making S.ahead S.ending S.given source) (seen S.ahead S.ending result) }
     {
         let mut drawn = Drawn {
             source,
@@ -34,7 +32,7 @@ impl<S: FallibleSource> Stash<S> {
 
     /// Takes the first character, if one is ahead.
     fn take(&mut self) -> Option<char>
-        ensures { Takes false result (seen S.FallibleSource.ahead S.FallibleSource.ending self.old) (seen S.FallibleSource.ahead S.FallibleSource.ending self.new) }
+        ensures { Takes result (seen S.ahead S.ending self.old) (seen S.ahead S.ending self.new) }
     {
         let taken = self.drawn.hold.pop();
         self.drawn.fill();
@@ -43,19 +41,19 @@ impl<S: FallibleSource> Stash<S> {
 }
 
 impl<S: FallibleSource> Input for Stash<S> {
-    ghost view = { seen S.FallibleSource.ahead S.FallibleSource.ending };
+    ghost Held = { S };
 
-    ghost shown = { stash_shows };
+    ghost view = { seen S.ahead S.ending };
 
-    ghost most = { 16 };
+    ghost shown = { stash_shown };
 
-    ghost prompt = { false };
+    ghost most = { λ _. 16 };
 
-    ghost sound = { stash_sound S.FallibleSource.ahead S.FallibleSource.ending S.FallibleSource.characters S.FallibleSource.short };
+    ghost sound = { stash_sound S.ahead S.ending S.characters S.short };
 
-    ghost faithful = { stash_faithful S.FallibleSource.ahead S.FallibleSource.ending };
+    ghost faithful = { stash_faithful S.ahead S.ending };
 
-    ghost wide = { sixteen };
+    ghost wide = { λ _. sixteen };
 
     fn lookahead(&mut self, _count: usize) {}
 
@@ -82,11 +80,14 @@ impl<S: FallibleSource> Input for Stash<S> {
         let _ = self.take();
     }
 
+    #[tactic(auto, using(input::proofs::Skipping::skips_none))]
     fn skip_n(&mut self, count: usize) {
-        for _ in 0..count {
+        let mut left = count;
+        while left > 0 {
             if self.take().is_none() {
                 return;
             }
+            left -= 1;
         }
     }
 

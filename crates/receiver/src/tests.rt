@@ -2,11 +2,13 @@
 
 use crate::beside::receive_beside;
 use crate::packets::Packets;
+use crate::quote::UntilQuote;
 use crate::stash::Stash;
 use error::{Fault, FaultKind};
 use input::Input;
 use input::ticket::Reading;
 use reading::call::{Answer, Call, Step};
+use runs::calls::skip_while;
 use source::codes::{Codes, CodesEnding};
 use std::test::Fail;
 
@@ -101,5 +103,16 @@ fn met_early(rt: HostRuntime) -> Result<(), Fail> {
     let stash = Stash::new(packets);
     assert_eq!(rt; stash.met_fault(), Some(LOST));
     assert_eq!(rt; stash.peek_nth(1), 'b');
+    Ok(())
+}
+
+#[test]
+fn skipped_to_quote(rt: HostRuntime) -> Result<(), Fail> {
+    let slots = [Some('a'), None, Some('\''), Some('b'), Some('"'), Some('c')];
+    let mut packets = Packets::new();
+    packets.load(&slots, CodesEnding::Clean)?;
+    let mut stash = Stash::new(packets);
+    assert_eq!(rt; skip_while(&mut stash, &UntilQuote::new('"')), 3);
+    assert_eq!(rt; stash.peek_nth(0), '"');
     Ok(())
 }

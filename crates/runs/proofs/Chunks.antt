@@ -6,7 +6,7 @@ use Rattle.utf8.specs.Room.{laid}
 use Rattle.std.proofs.lemmas.List.{take_all, take-take}
 use Rattle.std.proofs.lemmas.Bool.{cases_lt}
 use Rattle.char_traits.specs.Chars.{plain_safe}
-use Rattle.input.specs.View.{View, Sound, Keeps}
+use Rattle.input.specs.View.{View, Sound, Look, exactly, Keeps}
 use Rattle.input.specs.Calls.{none_left, Looks}
 use Rattle.input.proofs.Keeping.{still}
 use Rattle.runs.specs.declared.Fetched.{Fetched}
@@ -14,8 +14,8 @@ use Rattle.runs.specs.declared.Colon.{Colon}
 use Rattle.runs.specs.declared.Colon.TheVariants.{Stops, Leads}
 use Rattle.runs.specs.Runs.{goes, run_by, plain_run, chunk_run, colon_at}
 use Rattle.runs.specs.Rooms.{fitting, beyond, part}
-use Rattle.runs.specs.Scans.{scan_asks, chunk_asks, Skims, Fetches, SkipsChunk, FetchesChunk, StepsChunk, StepsFetch}
-use Rattle.runs.proofs.Asking.{skims_after, skims_scan, fetches_after, fetches_scan, opened, unfound, fetch_beyond}
+use Rattle.runs.specs.Scans.{chunk_look, Skims, Fetches, SkipsChunk, FetchesChunk, StepsChunk, StepsFetch}
+use Rattle.runs.proofs.Asking.{allows_chunk, skims_after, fetches_after, unfound, fetch_beyond}
 use Rattle.runs.proofs.Laying.{laid_none}
 
 -- a run that stops at each : is a front of the one that looks behind it
@@ -43,7 +43,7 @@ front_of_front count k run =
     ]
 
 -- a window of 1 tells no more than one of 0
-same_sight : (window : ℕ) → colon_at (max window 1) ≡ colon_at window
+pub same_sight : (window : ℕ) → colon_at (max window 1) ≡ colon_at window
 same_sight window =
     elim (cases_lt window 2) [
       | inl h ↦ ap (λ (b : Bool). cond b Stops Leads) (lt-ltb (max window 1) 2 (omega arith) ∙ sym (lt-ltb window 2 h))
@@ -51,69 +51,68 @@ same_sight window =
     ]
 
 -- the colon that was found is the one of the window
-pub sighted_skip : (prompt looks in_flow : Bool) (count n window : ℕ) (colon : Colon) (v w : View) → colon ≡ colon_at window
-    → Skims prompt looks 0 (take count (chunk_run colon in_flow v.ahead)) n v w → Skims prompt looks 0 (take count (chunk_run (colon_at window) in_flow v.ahead)) n v w
-sighted_skip prompt looks in_flow count n window colon v w e k = subst (λ (x : Colon). Skims prompt looks 0 (take count (chunk_run x in_flow v.ahead)) n v w) e k
+pub sighted_skip : {H : Type 0} (looks in_flow : Bool) (count n window : ℕ) (colon : Colon) (v w : View H) → colon ≡ colon_at window
+    → Skims looks (exactly 0) (take count (chunk_run colon in_flow v.ahead)) n v w → Skims looks (exactly 0) (take count (chunk_run (colon_at window) in_flow v.ahead)) n v w
+sighted_skip looks in_flow count n window colon v w e k = subst (λ (x : Colon). Skims looks (exactly 0) (take count (chunk_run x in_flow v.ahead)) n v w) e k
 
-pub sighted_fetch : (prompt looks in_flow : Bool) (count window : ℕ) (colon : Colon) (room : List ℕ) (filled : ℕ) (r : Fetched) (left : List ℕ) (v w : View) → colon ≡ colon_at window
-    → Fetches prompt looks 0 (take count (chunk_run colon in_flow v.ahead)) room filled r left v w → Fetches prompt looks 0 (take count (chunk_run (colon_at window) in_flow v.ahead)) room filled r left v w
-sighted_fetch prompt looks in_flow count window colon room filled r left v w e f =
-    subst (λ (x : Colon). Fetches prompt looks 0 (take count (chunk_run x in_flow v.ahead)) room filled r left v w) e f
+pub sighted_fetch : {H : Type 0} (looks in_flow : Bool) (count window : ℕ) (colon : Colon) (room : List ℕ) (filled : ℕ) (r : Fetched) (left : List ℕ) (v w : View H) → colon ≡ colon_at window
+    → Fetches looks (exactly 0) (take count (chunk_run colon in_flow v.ahead)) room filled r left v w → Fetches looks (exactly 0) (take count (chunk_run (colon_at window) in_flow v.ahead)) room filled r left v w
+sighted_fetch looks in_flow count window colon room filled r left v w e f =
+    subst (λ (x : Colon). Fetches looks (exactly 0) (take count (chunk_run x in_flow v.ahead)) room filled r left v w) e f
 
-chunk_asked : (prompt : Bool) (count : ℕ) → 0 < count → scan_asks prompt ≡ chunk_asks prompt count
-chunk_asked true count h = omega arith
-chunk_asked false count h = omega arith
-
-module _ (prompt in_flow : Bool) (most count : ℕ) (v e w : View) (big : 16 ≤ most) (some : 0 < count) (l : Looks prompt most 1 v e) where
-  sight : prompt ≡ true → colon_at e.window ≡ colon_at v.window
-  sight p = ap colon_at (let n = l.keeps.narrow p in omega arith) ∙ same_sight v.window
+module _ {H : Type 0} (in_flow : Bool) (count : ℕ) (v e w : View H) (s : Sound v) (some : 0 < count) (l : Looks 1 v e) where
+  -- where the window shows a : alike before and after, it did so in between
+  sight : e.window ≤ w.window → colon_at v.window ≡ colon_at w.window → colon_at e.window ≡ colon_at v.window
+  sight up same =
+      elim (cases_lt e.window 2) [
+        | inl low ↦ ap (λ (b : Bool). cond b Stops Leads) (lt-ltb e.window 2 low ∙ sym (lt-ltb v.window 2 (omega (arith, l.keeps.window))))
+        | inr high ↦ ap (λ (b : Bool). cond b Stops Leads) (le-ltb e.window 2 high ∙ sym (le-ltb w.window 2 (omega arith))) ∙ sym same
+      ]
 
   wide : 0 < e.window
-  wide = omega (arith, opened prompt most 1 v e w big (omega arith) l)
+  wide = omega (arith, l.wide)
 
-  module _ (n : ℕ) (k : Skims prompt (ltb n count) 0 (take count (chunk_run (colon_at e.window) in_flow e.ahead)) n e w) where
-    quiet : Skims prompt false 0 (take count (chunk_run (colon_at e.window) in_flow e.ahead)) n e w
-    quiet = record { keeps = unfound prompt (ltb n count) 0 e w (omega (arith, wide, k.keeps.window)) k.keeps; told = k.told; wide = k.wide; number = k.number; ahead = k.ahead }
+  module _ (n : ℕ) (k : Skims (ltb n count) (exactly 0) (take count (chunk_run (colon_at e.window) in_flow e.ahead)) n e w) where
+    quiet : Skims false (exactly 0) (take count (chunk_run (colon_at e.window) in_flow e.ahead)) n e w
+    quiet = record { keeps = unfound (ltb n count) (exactly 0) e w (omega (arith, wide, k.keeps.window)) k.keeps; told = k.told; wide = k.wide; number = k.number; ahead = k.ahead }
 
-    skimmed : Skims prompt false (chunk_asks prompt count) (take count (chunk_run (colon_at e.window) in_flow v.ahead)) n v w
+    skimmed : Skims false (chunk_look v.manner count) (take count (chunk_run (colon_at e.window) in_flow v.ahead)) n v w
     skimmed =
-        subst (λ (asks : ℕ). Skims prompt false asks (take count (chunk_run (colon_at e.window) in_flow v.ahead)) n v w) (chunk_asked prompt count some)
-        (skims_scan prompt false _ n v w
-        (skims_after prompt most 1 v e w big (omega arith) l false (λ a. take count (chunk_run (colon_at e.window) in_flow a)) n quiet))
+        skims_after 1 (chunk_look v.manner count) v e w (omega arith) l (allows_chunk v s count some) false (λ a. take count (chunk_run (colon_at e.window) in_flow a)) n quiet
 
-    pub steps_chunk : (r : Bool × ℕ) → r.1 ≡ n → r.0 ≡ ltb n count → StepsChunk prompt in_flow count r v w
+    pub steps_chunk : (r : Bool × ℕ) → r.1 ≡ n → r.0 ≡ ltb n count → StepsChunk in_flow count r v w
     steps_chunk r i j =
         record {
           colon = colon_at e.window;
-          sight = sight;
-          skims = subst (λ (m : ℕ). Skims prompt false (chunk_asks prompt count) (take count (chunk_run (colon_at e.window) in_flow v.ahead)) m v w) (sym i) skimmed;
+          sight = sight k.keeps.window;
+          skims = subst (λ (m : ℕ). Skims false (chunk_look v.manner count) (take count (chunk_run (colon_at e.window) in_flow v.ahead)) m v w) (sym i) skimmed;
           stopped = j ∙ ap (λ m. ltb m count) (sym i);
         }
 
-    pub skips_chunk : (r : Bool × ℕ) → r.1 ≡ n → SkipsChunk prompt in_flow count r v w
+    pub skips_chunk : (r : Bool × ℕ) → r.1 ≡ n → SkipsChunk in_flow count r v w
     skips_chunk r i =
         let front = chunk_front e.window in_flow v.ahead in
         record {
           wants = min count front.0;
           skims =
-              subst (λ (run : List ℕ). Skims prompt false (chunk_asks prompt count) run r.1 v w)
+              subst (λ (run : List ℕ). Skims false (chunk_look v.manner count) run r.1 v w)
               (ap (take count) front.1 ∙ front_of_front count front.0 (plain_run in_flow v.ahead))
-              (subst (λ (m : ℕ). Skims prompt false (chunk_asks prompt count) (take count (chunk_run (colon_at e.window) in_flow v.ahead)) m v w) (sym i) skimmed);
+              (subst (λ (m : ℕ). Skims false (chunk_look v.manner count) (take count (chunk_run (colon_at e.window) in_flow v.ahead)) m v w) (sym i) skimmed);
         }
 
   module _ (room : List ℕ) (filled : ℕ) (r : Fetched) (left : List ℕ) (h : filled ≤ length room)
-      (f : Fetches prompt (ltb r.count count) 0 (take count (chunk_run (colon_at e.window) in_flow e.ahead)) room filled r left e w) where
+      (f : Fetches (ltb r.count count) (exactly 0) (take count (chunk_run (colon_at e.window) in_flow e.ahead)) room filled r left e w) where
     inside : beyond room filled ≡ false
     inside = le-ltb (length room) filled h
 
-    quiet_fetch : Fetches prompt false 0 (take count (chunk_run (colon_at e.window) in_flow e.ahead)) room filled r left e w
+    quiet_fetch : Fetches false (exactly 0) (take count (chunk_run (colon_at e.window) in_flow e.ahead)) room filled r left e w
     quiet_fetch =
-        let keeps : Keeps prompt (ltb r.count count && none_left w.ahead) 0 e w =
-        subst (λ (b : Bool). Keeps prompt (ltb r.count count && (not b && none_left w.ahead)) (cond b 0 0) e w) inside f.keeps in
+        let keeps : Keeps (ltb r.count count && none_left w.ahead) (exactly 0) e w =
+        subst (λ (b : Bool). Keeps (ltb r.count count && (not b && none_left w.ahead)) (cond b (exactly 0) (exactly 0)) e w) inside f.keeps in
         record {
           keeps =
-              subst (λ (b : Bool). Keeps prompt false (cond b 0 0) e w) (sym inside)
-              (unfound prompt (ltb r.count count) 0 e w (omega (arith, wide, f.keeps.window)) keeps);
+              subst (λ (b : Bool). Keeps false (cond b (exactly 0) (exactly 0)) e w) (sym inside)
+              (unfound (ltb r.count count) (exactly 0) e w (omega (arith, wide, f.keeps.window)) keeps);
           told = f.told;
           wide = f.wide;
           number = f.number;
@@ -124,47 +123,48 @@ module _ (prompt in_flow : Bool) (most count : ℕ) (v e w : View) (big : 16 ≤
           unmoved = f.unmoved;
         }
 
-    fetched : Fetches prompt false (chunk_asks prompt count) (take count (chunk_run (colon_at e.window) in_flow v.ahead)) room filled r left v w
+    fetched : Fetches false (chunk_look v.manner count) (take count (chunk_run (colon_at e.window) in_flow v.ahead)) room filled r left v w
     fetched =
-        subst (λ (asks : ℕ). Fetches prompt false asks (take count (chunk_run (colon_at e.window) in_flow v.ahead)) room filled r left v w) (chunk_asked prompt count some)
-        (fetches_scan prompt false _ room filled r left v w
-        (fetches_after prompt most 1 v e w big (omega arith) l false (λ a. take count (chunk_run (colon_at e.window) in_flow a)) room filled r left h quiet_fetch))
+        fetches_after 1 (chunk_look v.manner count) v e w (omega arith) l (allows_chunk v s count some) false (λ a. take count (chunk_run (colon_at e.window) in_flow a))
+        room filled r left h quiet_fetch
 
-    pub steps_fetch : StepsFetch prompt in_flow count room filled (ltb r.count count, r) left v w
-    steps_fetch = record { colon = colon_at e.window; sight = sight; fetches = fetched; stopped = refl }
+    pub steps_fetch : StepsFetch in_flow count room filled (ltb r.count count, r) left v w
+    steps_fetch = record { colon = colon_at e.window; sight = sight f.keeps.window; fetches = fetched; stopped = refl }
 
-    pub fetches_chunk : (stopped : Bool) → FetchesChunk prompt in_flow count room filled (stopped, r) left v w
+    pub fetches_chunk : (stopped : Bool) → FetchesChunk in_flow count room filled (stopped, r) left v w
     fetches_chunk stopped =
         let front = chunk_front e.window in_flow v.ahead in
         record {
           wants = min count front.0;
           fetches =
-              subst (λ (run : List ℕ). Fetches prompt false (chunk_asks prompt count) run room filled r left v w)
+              subst (λ (run : List ℕ). Fetches false (chunk_look v.manner count) run room filled r left v w)
               (ap (take count) front.1 ∙ front_of_front count front.0 (plain_run in_flow v.ahead)) fetched;
         }
 
 -- a chunk of none
-none_asked : (prompt : Bool) → chunk_asks prompt 0 ≡ 0
-none_asked true = omega arith
-none_asked false = omega arith
+module _ {H : Type 0} (in_flow : Bool) (count : ℕ) (v : View H) (s : Sound v) (none : count ≡ 0) where
+  unasked : exactly 0 ≡ chunk_look v.manner count
+  unasked =
+      let least : 0 ≡ min (cond v.manner.steps 1 0) count = omega arith in
+      let most : 0 ≡ min 1 count = omega arith in
+      λ i. record { least = least i; most = most i }
 
-module _ (prompt in_flow : Bool) (count : ℕ) (v : View) (s : Sound v) (none : count ≡ 0) where
-  rests : Keeps prompt false (chunk_asks prompt count) v v
-  rests = subst (λ (asks : ℕ). Keeps prompt false asks v v) (sym (ap (chunk_asks prompt) none ∙ none_asked prompt)) (still prompt v s)
+  rests : Keeps false (chunk_look v.manner count) v v
+  rests = subst (λ (look : Look). Keeps false look v v) unasked (still v s)
 
-  narrow : min 16 (chunk_asks prompt count) ≤ v.window
-  narrow = omega (arith, ap (chunk_asks prompt) none ∙ none_asked prompt)
+  narrow : min 16 (chunk_look v.manner count).least ≤ v.window
+  narrow = omega (arith, ap (λ (look : Look). look.least) unasked)
 
-  skims_none : (run : List ℕ) → run ≡ [] → Skims prompt false (chunk_asks prompt count) run 0 v v
+  skims_none : (run : List ℕ) → run ≡ [] → Skims false (chunk_look v.manner count) run 0 v v
   skims_none run e = record { keeps = rests; told = refl; wide = narrow; number = sym (ap length e); ahead = refl }
 
   stops : false ≡ ltb 0 count
   stops = sym (le-ltb 0 count (omega arith))
 
-  pub skips_none : SkipsChunk prompt in_flow count (false, 0) v v
+  pub skips_none : SkipsChunk in_flow count (false, 0) v v
   skips_none = record { wants = 0; skims = skims_none (take 0 (plain_run in_flow v.ahead)) refl }
 
-  pub steps_none : StepsChunk prompt in_flow count (false, 0) v v
+  pub steps_none : StepsChunk in_flow count (false, 0) v v
   steps_none =
       record { colon = colon_at v.window; sight = λ _. refl; skims = skims_none _ (ap (λ k. take k (chunk_run (colon_at v.window) in_flow v.ahead)) none); stopped = stops }
 
@@ -179,14 +179,14 @@ module _ (prompt in_flow : Bool) (count : ℕ) (v : View) (s : Sound v) (none : 
         empty true = refl
         empty false = refl
 
-    fetches_none : (run : List ℕ) → run ≡ [] → Fetches prompt false (chunk_asks prompt count) run room filled r room v v
+    fetches_none : (run : List ℕ) → run ≡ [] → Fetches false (chunk_look v.manner count) run room filled r room v v
     fetches_none run e =
         let p = nothing run e in
-        subst (λ (x : Fetched). Fetches prompt false (chunk_asks prompt count) run room filled x room v v) (sym is)
+        subst (λ (x : Fetched). Fetches false (chunk_look v.manner count) run room filled x room v v) (sym is)
         (record {
-          keeps = subst (λ (b : Bool). Keeps prompt false (cond b 0 (chunk_asks prompt count)) v v) (sym within) rests;
+          keeps = subst (λ (b : Bool). Keeps false (cond b (exactly 0) (chunk_look v.manner count)) v v) (sym within) rests;
           told = refl;
-          wide = subst (λ (b : Bool). min 16 (cond b 0 (chunk_asks prompt count)) ≤ v.window) (sym within) narrow;
+          wide = subst (λ (b : Bool). min 16 (cond b (exactly 0) (chunk_look v.manner count)).least ≤ v.window) (sym within) narrow;
           number = sym (ap length p);
           fills = omega (arith, ap (λ xs. length (encodes xs)) p);
           refusal =
@@ -195,13 +195,13 @@ module _ (prompt in_flow : Bool) (count : ℕ) (v : View) (s : Sound v) (none : 
               ∙ (λ i. cond (ltb (length (p i)) (length (e i))) (7, []) (0, [])));
           bytes = sym (ap (λ xs. laid room filled (encodes xs)) p ∙ laid_none room filled);
           ahead = sym (ap (λ xs. drop (length xs) v.ahead) p);
-          unmoved = λ _. refl;
+          unmoved = λ _ _. refl;
         })
 
-    pub fetches_chunk_none : FetchesChunk prompt in_flow count room filled (false, r) room v v
+    pub fetches_chunk_none : FetchesChunk in_flow count room filled (false, r) room v v
     fetches_chunk_none = record { wants = 0; fetches = fetches_none (take 0 (plain_run in_flow v.ahead)) refl }
 
-    pub steps_fetch_none : StepsFetch prompt in_flow count room filled (false, r) room v v
+    pub steps_fetch_none : StepsFetch in_flow count room filled (false, r) room v v
     steps_fetch_none =
         record {
           colon = colon_at v.window;
@@ -211,16 +211,16 @@ module _ (prompt in_flow : Bool) (count : ℕ) (v : View) (s : Sound v) (none : 
         }
 
 -- a chunk whose filled count lies beyond the room
-module _ (prompt in_flow : Bool) (count : ℕ) (room : List ℕ) (filled : ℕ) (r : Fetched) (v : View) (s : Sound v) (h : length room < filled)
+module _ {H : Type 0} (in_flow : Bool) (count : ℕ) (room : List ℕ) (filled : ℕ) (r : Fetched) (v : View H) (s : Sound v) (h : length room < filled)
     (is : r ≡ record { count = 0; filled = filled; refusal = Some BeyondRoom }) where
-  pub chunk_beyond : (stopped : Bool) → FetchesChunk prompt in_flow count room filled (stopped, r) room v v
-  chunk_beyond stopped = record { wants = 0; fetches = fetch_beyond prompt false (chunk_asks prompt count) _ room filled r v s h is }
+  pub chunk_beyond : (stopped : Bool) → FetchesChunk in_flow count room filled (stopped, r) room v v
+  chunk_beyond stopped = record { wants = 0; fetches = fetch_beyond false (chunk_look v.manner count) _ room filled r v s h is }
 
-  pub steps_beyond : StepsFetch prompt in_flow count room filled (ltb 0 count, r) room v v
+  pub steps_beyond : StepsFetch in_flow count room filled (ltb 0 count, r) room v v
   steps_beyond =
       record {
         colon = colon_at v.window;
         sight = λ _. refl;
-        fetches = fetch_beyond prompt false (chunk_asks prompt count) _ room filled r v s h is;
+        fetches = fetch_beyond false (chunk_look v.manner count) _ room filled r v s h is;
         stopped = ap (λ (x : Fetched). ltb x.count count) (sym is);
       }

@@ -3,7 +3,7 @@ use Rattle.std.proofs.Common.{◌≡◌, ℕ, ◌+◌, ◌-◌, ◌<◌, ◌≤�
 use lib.Utf8.{encode, encodes}
 use Rattle.error.specs.declared.Refusal.{Refusal}
 use Rattle.utf8.specs.Room.{laid}
-use Rattle.input.specs.View.{View, Keeps}
+use Rattle.input.specs.View.{View, exactly, Keeps}
 use Rattle.input.specs.Calls.{none_left, Skips}
 use Rattle.input.proofs.Keeping.{never}
 use Rattle.runs.specs.declared.Fetched.{Fetched}
@@ -13,19 +13,19 @@ use Rattle.runs.proofs.Laying.{laid_none, laid_length, laid_both, fit_one, fit_n
 use Rattle.runs.proofs.Running.{first_some, Running, all_of, rest_of, run_more, rest_is, gone, ended, offered}
 
 -- n characters of a run were taken, from v to w, and their bytes lie in the room from `filled` to `end`
-pub record Fetching (prompt : Bool) (go : ℕ → ℕ → Bool) (most : ℕ) (start room : List ℕ) (filled end n : ℕ) (v w : View) : Type 0 where
-  pub run : Running prompt go most n v w
+pub record Fetching {H : Type 0} (go : ℕ → ℕ → Bool) (most : ℕ) (start room : List ℕ) (filled end n : ℕ) (v w : View H) : Type 0 where
+  pub run : Running go most n v w
   pub long : length room ≡ length start
   pub inside : end ≤ length room
   pub number : length (fitting (length start - filled) (all_of go most v)) ≡ n + length (fitting (length room - end) (rest_of go most n w))
   pub bytes : filled + length (encodes (fitting (length start - filled) (all_of go most v))) ≡ end + length (encodes (fitting (length room - end) (rest_of go most n w)))
   pub lies : laid start filled (encodes (fitting (length start - filled) (all_of go most v))) ≡ laid room end (encodes (fitting (length room - end) (rest_of go most n w)))
 
-module _ (prompt : Bool) (go : ℕ → ℕ → Bool) (most : ℕ) (start room : List ℕ) (filled end n : ℕ) (v u o : View) (r : Option ℕ) (f : Fetching prompt go most start room filled end n v u) (offers : Offers prompt go r u o) where
-  pub fetch_more : (c : ℕ) → Some c ≡ r → n < most → (next : ℕ) (new : List ℕ) → Appended (encode c) room end next new → (w : View) → Skips prompt 1 o w
-      → Fetching prompt go most start new filled next (n + 1) v w
+module _ {H : Type 0} (go : ℕ → ℕ → Bool) (most : ℕ) (start room : List ℕ) (filled end n : ℕ) (v u o : View H) (r : Option ℕ) (f : Fetching go most start room filled end n v u) (offers : Offers go r u o) where
+  pub fetch_more : (c : ℕ) → Some c ≡ r → n < most → (next : ℕ) (new : List ℕ) → Appended (encode c) room end next new → (w : View H) → Skips 1 o w
+      → Fetching go most start new filled next (n + 1) v w
   fetch_more c is more next new a w k =
-      let rest = rest_is prompt go most n v u o r f.run offers c is more w k.ahead in
+      let rest = rest_is go most n v u o r f.run offers c is more w k.ahead in
       let len : length new ≡ length room = ap length a.lies ∙ laid_length room end (encode c) a.fits in
       let free : length room - end - length (encode c) ≡ length new - next = omega (arith, a.end, a.fits) in
       let q : List ℕ = fitting (length new - next) (rest_of go most (n + 1) w) in
@@ -34,7 +34,7 @@ module _ (prompt : Bool) (go : ℕ → ℕ → Bool) (most : ℕ) (start room : 
       ∙ fit_one (length room - end) c (rest_of go most (n + 1) w) (omega (arith, a.fits))
       ∙ ap (λ k. c ∷ fitting k (rest_of go most (n + 1) w)) free in
       record {
-        run = run_more prompt go most n v u o r f.run offers c is more w k;
+        run = run_more go most n v u o r f.run offers c is more w k;
         long = len ∙ f.long;
         inside = omega (arith, a.end, a.fits);
         number = f.number ∙ ap (λ xs. n + length xs) fit ∙ omega arith;
@@ -46,7 +46,7 @@ module _ (prompt : Bool) (go : ℕ → ℕ → Bool) (most : ℕ) (start room : 
       }
 
 -- nothing more of the run fits, or nothing is left of it
-module _ (prompt : Bool) (go : ℕ → ℕ → Bool) (most : ℕ) (start room : List ℕ) (filled end n : ℕ) (v u : View) (f : Fetching prompt go most start room filled end n v u) (h : filled ≤ length start) (none : fitting (length room - end) (rest_of go most n u) ≡ []) where
+module _ {H : Type 0} (go : ℕ → ℕ → Bool) (most : ℕ) (start room : List ℕ) (filled end n : ℕ) (v u : View H) (f : Fetching go most start room filled end n v u) (h : filled ≤ length start) (none : fitting (length room - end) (rest_of go most n u) ≡ []) where
   within : beyond start filled ≡ false
   within = le-ltb (length start) filled h
 
@@ -56,14 +56,14 @@ module _ (prompt : Bool) (go : ℕ → ℕ → Bool) (most : ℕ) (start room : 
   number_is : n ≡ length (part start filled (all_of go most v))
   number_is = sym (ap length part_is ∙ f.number ∙ ap (λ xs. n + length xs) none ∙ omega arith)
 
-  pub fetched : (looks : Bool) (refusal : Option Refusal) (w : View) → refused refusal ≡ cond (ltb n (length (all_of go most v))) (7, []) (0, [])
-      → Keeps prompt (looks && none_left w.ahead) 0 v w → w.told ≡ v.told → w.ahead ≡ drop n v.ahead
-      → Fetches prompt looks 0 (all_of go most v) start filled (record { count = n; filled = end; refusal = refusal }) room v w
+  pub fetched : (looks : Bool) (refusal : Option Refusal) (w : View H) → refused refusal ≡ cond (ltb n (length (all_of go most v))) (7, []) (0, [])
+      → Keeps (looks && none_left w.ahead) (exactly 0) v w → w.told ≡ v.told → w.ahead ≡ drop n v.ahead
+      → Fetches looks (exactly 0) (all_of go most v) start filled (record { count = n; filled = end; refusal = refusal }) room v w
   fetched looks refusal w is keeps told ahead =
       record {
-        keeps = subst (λ (b : Bool). Keeps prompt (looks && (not b && none_left w.ahead)) (cond b 0 0) v w) (sym within) keeps;
+        keeps = subst (λ (b : Bool). Keeps (looks && (not b && none_left w.ahead)) (cond b (exactly 0) (exactly 0)) v w) (sym within) keeps;
         told = told;
-        wide = subst (λ (b : Bool). min 16 (cond b 0 0) ≤ w.window) (sym within) (omega arith);
+        wide = subst (λ (b : Bool). min 16 (cond b (exactly 0) (exactly 0)).least ≤ w.window) (sym within) (omega arith);
         number = number_is;
         fills = omega (arith, ap (λ xs. length (encodes xs)) part_is, f.bytes, ap (λ xs. length (encodes xs)) none);
         refusal = is ∙ (λ i. cond (sym within i) (6, []) (cond (ltb (number_is i) (length (all_of go most v))) (7, []) (0, [])));
@@ -76,28 +76,28 @@ module _ (prompt : Bool) (go : ℕ → ℕ → Bool) (most : ℕ) (start room : 
 all_taken : (n : ℕ) (all : List ℕ) → length all ≡ n → ◌≡◌ {A = ℕ × List ℕ} (0, []) (cond (ltb n (length all)) (7, []) (0, []))
 all_taken n all e = sym (ap (λ (b : Bool). cond b (7, []) (0, [])) (le-ltb n (length all) (omega arith)))
 
-module _ (prompt : Bool) (go : ℕ → ℕ → Bool) (most : ℕ) (start room : List ℕ) (filled end n : ℕ) (v u o : View) (r : Option ℕ) (f : Fetching prompt go most start room filled end n v u) (offers : Offers prompt go r u o) (h : filled ≤ length start) where
+module _ {H : Type 0} (go : ℕ → ℕ → Bool) (most : ℕ) (start room : List ℕ) (filled end n : ℕ) (v u o : View H) (r : Option ℕ) (f : Fetching go most start room filled end n v u) (offers : Offers go r u o) (h : filled ≤ length start) where
   pub fetch_ended : None ≡ r → n < most
-      → Fetches prompt (ltb n most) 0 (all_of go most v) start filled (record { count = n; filled = end; refusal = None }) room v o
+      → Fetches (ltb n most) (exactly 0) (all_of go most v) start filled (record { count = n; filled = end; refusal = None }) room v o
   fetch_ended is more =
-      let none = gone prompt go most n v u o r f.run offers is more in
-      fetched prompt go most start room filled end n v u f h (ap (fitting (length room - end)) none) (ltb n most) None o
+      let none = gone go most n v u o r f.run offers is more in
+      fetched go most start room filled end n v u f h (ap (fitting (length room - end)) none) (ltb n most) None o
       (all_taken n (all_of go most v) (f.run.so_far ∙ ap (λ xs. n + length xs) none ∙ omega arith))
-      (ended prompt go most n v u o r f.run offers is more) (offers.told ∙ f.run.told) (offers.ahead ∙ f.run.ahead)
+      (ended go most n v u o r f.run offers is more) (offers.told ∙ f.run.told) (offers.ahead ∙ f.run.ahead)
 
   pub fetch_full : (c : ℕ) → Some c ≡ r → n < most → (refusal : Refusal) (new : List ℕ) → Full (encode c) room end refusal new
-      → Fetches prompt (ltb n most) 0 (all_of go most v) start filled (record { count = n; filled = end; refusal = Some refusal }) new v o
+      → Fetches (ltb n most) (exactly 0) (all_of go most v) start filled (record { count = n; filled = end; refusal = Some refusal }) new v o
   fetch_full c is more refusal new full =
-      let w : View = record { ahead = drop 1 o.ahead; window = 0; ending = o.ending; met = true; told = true } in
-      let rest = rest_is prompt go most n v u o r f.run offers c is more w refl in
+      let w : View H = record o { ahead = drop 1 o.ahead } in
+      let rest = rest_is go most n v u o r f.run offers c is more w refl in
       let none = ap (fitting (length room - end)) rest ∙ fit_none (length room - end) c (rest_of go most (n + 1) w) (omega (arith, full.wide, f.inside)) in
       let fewer : ltb n (length (all_of go most v)) ≡ true = lt-ltb n _ (omega (arith, f.run.so_far, ap length rest)) in
       let some : none_left o.ahead ≡ false = left o.ahead c (offers.ahead ∙ ahead_is) in
-      let keeps : Keeps prompt (ltb n most && none_left o.ahead) 0 v o =
-      subst (λ (b : Bool). Keeps prompt (b && none_left o.ahead) 0 v o) (sym (lt-ltb n most more))
-      (subst (λ (b : Bool). Keeps prompt b 0 v o) (sym some) (offered prompt go most n v u o r f.run offers c is more)) in
-      subst (λ (bytes : List ℕ). Fetches prompt (ltb n most) 0 (all_of go most v) start filled (record { count = n; filled = end; refusal = Some refusal }) bytes v o) (sym full.same)
-      (fetched prompt go most start room filled end n v u f h none (ltb n most) (Some refusal) o
+      let keeps : Keeps (ltb n most && none_left o.ahead) (exactly 0) v o =
+      subst (λ (b : Bool). Keeps (b && none_left o.ahead) (exactly 0) v o) (sym (lt-ltb n most more))
+      (subst (λ (b : Bool). Keeps b (exactly 0) v o) (sym some) (offered go most n v u o r f.run offers c is more)) in
+      subst (λ (bytes : List ℕ). Fetches (ltb n most) (exactly 0) (all_of go most v) start filled (record { count = n; filled = end; refusal = Some refusal }) bytes v o) (sym full.same)
+      (fetched go most start room filled end n v u f h none (ltb n most) (Some refusal) o
       (full.is ∙ sym (ap (λ (b : Bool). cond b (7, []) (0, [])) fewer)) keeps (offers.told ∙ f.run.told) (offers.ahead ∙ f.run.ahead))
     where
       ahead_is : u.ahead ≡ c ∷ drop 1 u.ahead
@@ -108,8 +108,8 @@ module _ (prompt : Bool) (go : ℕ → ℕ → Bool) (most : ℕ) (start room : 
       left (d ∷ a) c e = refl
 
 -- the same of the answer that was made of it
-pub answered : (prompt : Bool) (most : ℕ) (run start : List ℕ) (filled n end : ℕ) (refusal : Option Refusal) (left : List ℕ) (v w : View) (r : Fetched)
-    → r ≡ record { count = n; filled = end; refusal = refusal } → Fetches prompt (ltb n most) 0 run start filled (record { count = n; filled = end; refusal = refusal }) left v w
-    → Fetches prompt (ltb r.count most) 0 run start filled r left v w
-answered prompt most run start filled n end refusal left v w r e f =
-    subst (λ (x : Fetched). Fetches prompt (ltb x.count most) 0 run start filled x left v w) (sym e) f
+pub answered : {H : Type 0} (most : ℕ) (run start : List ℕ) (filled n end : ℕ) (refusal : Option Refusal) (left : List ℕ) (v w : View H) (r : Fetched)
+    → r ≡ record { count = n; filled = end; refusal = refusal } → Fetches (ltb n most) (exactly 0) run start filled (record { count = n; filled = end; refusal = refusal }) left v w
+    → Fetches (ltb r.count most) (exactly 0) run start filled r left v w
+answered most run start filled n end refusal left v w r e f =
+    subst (λ (x : Fetched). Fetches (ltb x.count most) (exactly 0) run start filled x left v w) (sym e) f

@@ -6,3 +6,4 @@ pub mod Asking
 pub mod Chunks
 pub mod Skipping
 pub mod Eol
+pub mod Longest

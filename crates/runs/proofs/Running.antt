@@ -1,6 +1,6 @@
 -- A run as far as it was taken. Assumes nothing.
 use Rattle.std.proofs.Common.{◌≡◌, ℕ, zero, suc, ◌+◌, ◌-◌, ◌<◌, ◌≤◌, Bool, true, false, cond, ◌&&◌, ltb, List, [], ◌∷◌, length, get_or, take, drop, is_some, Some, None, Option, sym, refl, ap, ◌∙◌, subst, arith, length-drop, drop-drop, lt-ltb, le-ltb}
-use Rattle.input.specs.View.{View, Keeps}
+use Rattle.input.specs.View.{View, exactly, Keeps}
 use Rattle.input.specs.Calls.{none_left, first_of, Skips}
 use Rattle.input.proofs.Keeping.{never, both}
 use Rattle.runs.specs.Runs.{run_by}
@@ -49,21 +49,21 @@ take_nothing zero = refl
 take_nothing (suc n) = refl
 
 -- what is left of a run of which n characters were taken
-abbrev pub rest_of : (ℕ → ℕ → Bool) → ℕ → ℕ → View → List ℕ
+abbrev pub rest_of : {H : Type 0} → (ℕ → ℕ → Bool) → ℕ → ℕ → View H → List ℕ
 rest_of go most n v = take (most - n) (run_by go v.ahead)
 
-abbrev pub all_of : (ℕ → ℕ → Bool) → ℕ → View → List ℕ
+abbrev pub all_of : {H : Type 0} → (ℕ → ℕ → Bool) → ℕ → View H → List ℕ
 all_of go most v = take most (run_by go v.ahead)
 
 -- n characters of a run were taken, from v to w
-pub record Running (prompt : Bool) (go : ℕ → ℕ → Bool) (most n : ℕ) (v w : View) : Type 0 where
-  pub keeps : Keeps prompt false 0 v w
+pub record Running {H : Type 0} (go : ℕ → ℕ → Bool) (most n : ℕ) (v w : View H) : Type 0 where
+  pub keeps : Keeps false (exactly 0) v w
   pub told : w.told ≡ v.told
   pub ahead : w.ahead ≡ drop n v.ahead
   pub upto : n ≤ most
   pub so_far : length (all_of go most v) ≡ n + length (rest_of go most n w)
 
-module _ (prompt : Bool) (go : ℕ → ℕ → Bool) (most n : ℕ) (v u o : View) (r : Option ℕ) (run : Running prompt go most n v u) (offers : Offers prompt go r u o) where
+module _ {H : Type 0} (go : ℕ → ℕ → Bool) (most n : ℕ) (v u o : View H) (r : Option ℕ) (run : Running go most n v u) (offers : Offers go r u o) where
   shorter : length o.ahead ≤ length u.ahead
   shorter = omega (arith, ap length offers.ahead)
 
@@ -72,25 +72,25 @@ module _ (prompt : Bool) (go : ℕ → ℕ → Bool) (most n : ℕ) (v u o : Vie
     first = first_some go u.ahead c (is ∙ offers.first)
 
     -- what is left of the run before the character
-    pub rest_is : (w : View) → w.ahead ≡ drop 1 o.ahead → rest_of go most n u ≡ c ∷ rest_of go most (n + 1) w
+    pub rest_is : (w : View H) → w.ahead ≡ drop 1 o.ahead → rest_of go most n u ≡ c ∷ rest_of go most (n + 1) w
     rest_is w e =
         ap (λ xs. take (most - n) xs) first.run
         ∙ take_less most n c (run_by go (drop 1 u.ahead)) more
         ∙ ap (λ xs. c ∷ take (most - (n + 1)) (run_by go xs)) (ap (drop 1) (sym offers.ahead) ∙ sym e)
 
-    still_there : Keeps prompt false 0 u o
-    still_there = subst (λ (b : Bool). Keeps prompt b 0 u o) (some_left u.ahead c first.ahead).0 offers.keeps
+    still_there : Keeps false (exactly 0) u o
+    still_there = subst (λ (b : Bool). Keeps b (exactly 0) u o) (some_left u.ahead c first.ahead).0 offers.keeps
 
-    pub offered : Keeps prompt false 0 v o
-    offered = both prompt false 0 v u o shorter run.keeps still_there
+    pub offered : Keeps false (exactly 0) v o
+    offered = both false (exactly 0) v u o shorter run.keeps still_there
 
-    pub run_more : (w : View) → Skips prompt 1 o w → Running prompt go most (n + 1) v w
+    pub run_more : (w : View H) → Skips 1 o w → Running go most (n + 1) v w
     run_more w k =
         let some = (some_left u.ahead c first.ahead).1 in
         let len : length w.ahead ≤ length o.ahead = omega (arith, ap length k.ahead ∙ length-drop 1 o.ahead) in
         let not_end : ltb (length o.ahead) 1 ≡ false = le-ltb _ _ (omega (arith, ap length offers.ahead)) in
         record {
-          keeps = both prompt false 0 v o w len offered (subst (λ (b : Bool). Keeps prompt b 0 o w) not_end k.keeps);
+          keeps = both false (exactly 0) v o w len offered (subst (λ (b : Bool). Keeps b (exactly 0) o w) not_end k.keeps);
           told = k.told ∙ offers.told ∙ run.told;
           ahead = k.ahead ∙ ap (drop 1) (offers.ahead ∙ run.ahead) ∙ drop-drop 1 n v.ahead;
           upto = omega arith;
@@ -102,13 +102,13 @@ module _ (prompt : Bool) (go : ℕ → ℕ → Bool) (most n : ℕ) (v u o : Vie
     pub gone : rest_of go most n u ≡ []
     gone = ap (λ xs. take (most - n) xs) (first_none (run_by go u.ahead) (is ∙ offers.first)) ∙ take_nothing (most - n)
 
-    pub ended : Keeps prompt (ltb n most && none_left o.ahead) 0 v o
+    pub ended : Keeps (ltb n most && none_left o.ahead) (exactly 0) v o
     ended =
         let looks : ltb n most ≡ true = lt-ltb n most more in
         let e : none_left u.ahead ≡ ltb n most && none_left o.ahead = ap none_left (sym offers.ahead) ∙ ap (λ b. b && none_left o.ahead) (sym looks) in
-        subst (λ (b : Bool). Keeps prompt b 0 v o) e (both prompt (none_left u.ahead) 0 v u o shorter run.keeps offers.keeps)
+        subst (λ (b : Bool). Keeps b (exactly 0) v o) e (both (none_left u.ahead) (exactly 0) v u o shorter run.keeps offers.keeps)
 
-    pub run_ended : Skims prompt (ltb n most) 0 (all_of go most v) n v o
+    pub run_ended : Skims (ltb n most) (exactly 0) (all_of go most v) n v o
     run_ended =
         record {
           keeps = ended;
@@ -119,12 +119,12 @@ module _ (prompt : Bool) (go : ℕ → ℕ → Bool) (most n : ℕ) (v u o : Vie
         }
 
 -- the count is reached
-module _ (prompt : Bool) (go : ℕ → ℕ → Bool) (most n : ℕ) (v w : View) (run : Running prompt go most n v w) (all : most ≤ n) where
-  pub counted : Keeps prompt (ltb n most && none_left w.ahead) 0 v w
+module _ {H : Type 0} (go : ℕ → ℕ → Bool) (most n : ℕ) (v w : View H) (run : Running go most n v w) (all : most ≤ n) where
+  pub counted : Keeps (ltb n most && none_left w.ahead) (exactly 0) v w
   counted =
-      subst (λ (b : Bool). Keeps prompt (b && none_left w.ahead) 0 v w) (sym (le-ltb n most all)) run.keeps
+      subst (λ (b : Bool). Keeps (b && none_left w.ahead) (exactly 0) v w) (sym (le-ltb n most all)) run.keeps
 
-  pub run_counted : Skims prompt (ltb n most) 0 (all_of go most v) n v w
+  pub run_counted : Skims (ltb n most) (exactly 0) (all_of go most v) n v w
   run_counted =
       record {
         keeps = counted;

@@ -1,3 +1,4 @@
 pub mod Runs
 pub mod Rooms
 pub mod Scans
+pub mod Laws

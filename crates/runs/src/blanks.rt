@@ -24,7 +24,7 @@ fn is_separator(c: char, skip_tabs: SkipTabs) -> bool
 
 /// The next character, if it is a blank to skip.
 fn next_blank<I: Input>(input: &mut I, skip_tabs: SkipTabs) -> Option<char>
-    ensures { Offers I.Input.prompt (goes (separates skip_tabs) Free) result (I.Input.view input.old) (I.Input.view input.new) }
+    ensures { Offers (goes (separates skip_tabs) Free) result (I.Input.view input.old) (I.Input.view input.new) }
 {
     match input.next_ch() {
         Some(c) if is_separator(c, skip_tabs) => Some(c),
@@ -34,7 +34,7 @@ fn next_blank<I: Input>(input: &mut I, skip_tabs: SkipTabs) -> Option<char>
 
 /// Takes the blanks ahead, tabs only if they are allowed, and tells which there were.
 pub fn skip_blanks<I: Input>(input: &mut I, skip_tabs: SkipTabs) -> (usize, WhitespaceResult)
-    ensures skips { SkipsBlanks I.Input.prompt skip_tabs result (I.Input.view input.old) (I.Input.view input.new) }
+    ensures skips { SkipsBlanks skip_tabs result (I.Input.view input.old) (I.Input.view input.new) }
     ensures looked { 0 < (I.Input.view input.new).window }
 {
     input.lookahead(1);
@@ -54,12 +54,13 @@ pub fn skip_blanks<I: Input>(input: &mut I, skip_tabs: SkipTabs) -> (usize, Whit
     (count, seen)
 }
 
-/// The same, and then a comment, if it follows at least one blank.
+/// Skips spaces, and tabs if asked, and then a comment, if it follows at least one of them.
+#[tactic(auto, using(crate::proofs::Eol::bare_comment))]
 pub fn skip_to_eol<I: Input>(
     input: &mut I,
     skip_tabs: SkipTabs,
 ) -> (usize, Result<WhitespaceResult, Refusal>)
-    ensures { SkipsToEol I.Input.prompt skip_tabs result (I.Input.view input.old) (I.Input.view input.new) }
+    ensures { SkipsToEol skip_tabs result (I.Input.view input.old) (I.Input.view input.new) }
 {
     let (blanks, seen) = skip_blanks(input, skip_tabs);
     if input.peek_nth(0) != '#' {
@@ -68,6 +69,6 @@ pub fn skip_to_eol<I: Input>(
     if blanks == 0 {
         return (0, Err(Refusal::CommentNotSeparated));
     }
-    let comment = skip_run::<NotBreakz, I>(input, Colon::Free, WHOLE);
+    let comment = skip_run(input, &NotBreakz, Colon::Free, WHOLE);
     (blanks + comment, Ok(seen))
 }

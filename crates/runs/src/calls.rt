@@ -1,9 +1,11 @@
 //! Runs of one class: each scan is written once, for every class and every input.
 
 ghost use Rattle.std.specs.Prelude.{◌≡◌, ℕ, Bool, true, false};
+ghost use Rattle.input.specs.View.{exactly};
 ghost use Rattle.char_traits.specs.Chars.{not_breakz};
 ghost use Rattle.runs.specs.Runs.{run_of};
-ghost use Rattle.runs.specs.Scans.{scan_asks, Skims, Fetches};
+ghost use Rattle.runs.specs.Rooms.{beyond};
+ghost use Rattle.runs.specs.Scans.{scan_look, Skims, Fetches};
 
 use crate::steps::{fetch_run, skip_run};
 use crate::{Colon, Fetched};
@@ -15,32 +17,45 @@ use input::Input;
 pub(crate) const WHOLE: usize = usize::MAX;
 
 /// Takes the longest run of a class, and counts it.
-pub fn skip_while<C: Class, I: Input>(input: &mut I) -> usize
-    ensures { Skims I.Input.prompt true (scan_asks I.Input.prompt) (run_of C.Class.member (I.Input.view input.old).ahead) result (I.Input.view input.old) (I.Input.view input.new) }
+pub fn skip_while<C: Class, I: Input>(input: &mut I, class: &C) -> usize
+    ensures { let v = I.Input.view input.old in
+        Skims true (scan_look v.manner) (run_of (C.Class.member class.now) v.ahead) result v
+        (I.Input.view input.new) }
 {
     input.lookahead(1);
-    skip_run::<C, I>(input, Colon::Free, WHOLE)
+    skip_run(input, class, Colon::Free, WHOLE)
 }
 
 /// Takes the longest run of a class, and appends it to a room.
-#[tactic(auto, using(crate::proofs::Asking::fetch_beyond))]
-pub fn fetch_while<C: Class, I: Input>(input: &mut I, room: &mut [u8], filled: usize) -> Fetched
-    ensures { Fetches I.Input.prompt true (scan_asks I.Input.prompt) (run_of C.Class.member (I.Input.view input.old).ahead) room.old filled result room.new (I.Input.view input.old) (I.Input.view input.new) }
+#[tactic(auto, using(crate::proofs::Asking::fetch_beyond, crate::proofs::Asking::within))]
+pub fn fetch_while<C: Class, I: Input>(
+    input: &mut I,
+    class: &C,
+    room: &mut [u8],
+    filled: usize,
+) -> Fetched
+    ensures fetches { let v = I.Input.view input.old in
+        Fetches true (scan_look v.manner) (run_of (C.Class.member class.now) v.ahead) room.old
+        filled result room.new v (I.Input.view input.new) }
+    ensures untouched { beyond room.old filled ≡ true → input.new ≡ input.old }
 {
     if filled > room.len() {
         return Fetched::new(0, filled, Some(Refusal::BeyondRoom));
     }
     input.lookahead(1);
-    fetch_run::<C, I>(input, Colon::Free, WHOLE, room, filled)
+    fetch_run(input, class, Colon::Free, WHOLE, room, filled)
 }
 
-/// Takes all up to a breakz or the end, appends it to a room, and leaves the window.
-#[tactic(auto, using(crate::proofs::Asking::fetch_beyond))]
+/// Takes all up to a breakz or the end, appends it to a room, and asks for no lookahead.
+#[tactic(auto, using(crate::proofs::Asking::fetch_beyond, crate::proofs::Asking::within))]
 pub fn fetch_line<I: Input>(input: &mut I, room: &mut [u8], filled: usize) -> Fetched
-    ensures { Fetches I.Input.prompt true 0 (run_of not_breakz (I.Input.view input.old).ahead) room.old filled result room.new (I.Input.view input.old) (I.Input.view input.new) }
+    ensures fetches { let v = I.Input.view input.old in
+        Fetches true (exactly 0) (run_of not_breakz v.ahead) room.old filled result room.new v
+        (I.Input.view input.new) }
+    ensures untouched { beyond room.old filled ≡ true → input.new ≡ input.old }
 {
     if filled > room.len() {
         return Fetched::new(0, filled, Some(Refusal::BeyondRoom));
     }
-    fetch_run::<NotBreakz, I>(input, Colon::Free, WHOLE, room, filled)
+    fetch_run(input, &NotBreakz, Colon::Free, WHOLE, room, filled)
 }

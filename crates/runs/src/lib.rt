@@ -7,6 +7,7 @@ use error::Refusal;
 
 pub mod blanks;
 pub mod calls;
+pub mod laws;
 pub mod plain;
 mod steps;
 

@@ -1,7 +1,9 @@
 //! Plain runs: whole, or a front of one at a time.
 
 ghost use Rattle.std.specs.Prelude.{◌≡◌, ℕ, ◌≤◌, Bool, true, false, length, take, nat_lt};
+ghost use Rattle.input.specs.View.{exactly};
 ghost use Rattle.runs.specs.Runs.{plain_run, chunk_run, colon_at};
+ghost use Rattle.runs.specs.Rooms.{beyond};
 ghost use Rattle.runs.specs.Scans.{Sees, Skims, Fetches, SkipsChunk, FetchesChunk, StepsChunk, StepsFetch};
 
 use crate::calls::WHOLE;
@@ -13,12 +15,14 @@ use input::Input;
 
 fn skip_safe<I: Input>(input: &mut I, colon: Colon, most: usize, in_flow: bool) -> usize
     requires { Sees colon (I.Input.view input.old).window }
-    ensures { Skims I.Input.prompt (nat_lt result most) 0 (take most (chunk_run colon in_flow (I.Input.view input.old).ahead)) result (I.Input.view input.old) (I.Input.view input.new) }
+    ensures { let v = I.Input.view input.old in
+        Skims (nat_lt result most) (exactly 0) (take most (chunk_run colon in_flow v.ahead))
+        result v (I.Input.view input.new) }
 {
     if in_flow {
-        skip_run::<PlainSafeInFlow, I>(input, colon, most)
+        skip_run(input, &PlainSafeInFlow, colon, most)
     } else {
-        skip_run::<PlainSafe, I>(input, colon, most)
+        skip_run(input, &PlainSafe, colon, most)
     }
 }
 
@@ -31,12 +35,15 @@ fn fetch_safe<I: Input>(
     in_flow: bool,
 ) -> Fetched
     requires { (Sees colon (I.Input.view input.old).window) × (filled ≤ length room.old) }
-    ensures { Fetches I.Input.prompt (nat_lt result.count most) 0 (take most (chunk_run colon in_flow (I.Input.view input.old).ahead)) room.old filled result room.new (I.Input.view input.old) (I.Input.view input.new) }
+    ensures { let v = I.Input.view input.old in
+        Fetches (nat_lt result.count most) (exactly 0)
+        (take most (chunk_run colon in_flow v.ahead)) room.old filled result room.new v
+        (I.Input.view input.new) }
 {
     if in_flow {
-        fetch_run::<PlainSafeInFlow, I>(input, colon, most, room, filled)
+        fetch_run(input, &PlainSafeInFlow, colon, most, room, filled)
     } else {
-        fetch_run::<PlainSafe, I>(input, colon, most, room, filled)
+        fetch_run(input, &PlainSafe, colon, most, room, filled)
     }
 }
 
@@ -53,21 +60,25 @@ fn colon_in<I: Input>(input: &I) -> Colon
 
 /// Takes a plain run, character by character, and counts it.
 pub fn skip_plain<I: Input>(input: &mut I, in_flow: bool) -> usize
-    ensures { Skims I.Input.prompt true 2 (plain_run in_flow (I.Input.view input.old).ahead) result (I.Input.view input.old) (I.Input.view input.new) }
+    ensures { let v = I.Input.view input.old in
+        Skims true (exactly 2) (plain_run in_flow v.ahead) result v (I.Input.view input.new) }
 {
     input.lookahead(2);
     skip_safe(input, Colon::Leads, WHOLE, in_flow)
 }
 
 /// Takes a plain run, character by character, and appends it to a room.
-#[tactic(auto, using(crate::proofs::Asking::fetch_beyond))]
+#[tactic(auto, using(crate::proofs::Asking::fetch_beyond, crate::proofs::Asking::within))]
 pub fn fetch_plain<I: Input>(
     input: &mut I,
     room: &mut [u8],
     filled: usize,
     in_flow: bool,
 ) -> Fetched
-    ensures { Fetches I.Input.prompt true 2 (plain_run in_flow (I.Input.view input.old).ahead) room.old filled result room.new (I.Input.view input.old) (I.Input.view input.new) }
+    ensures fetches { let v = I.Input.view input.old in
+        Fetches true (exactly 2) (plain_run in_flow v.ahead) room.old filled result room.new v
+        (I.Input.view input.new) }
+    ensures untouched { beyond room.old filled ≡ true → input.new ≡ input.old }
 {
     if filled > room.len() {
         return Fetched::new(0, filled, Some(Refusal::BeyondRoom));
@@ -79,8 +90,8 @@ pub fn fetch_plain<I: Input>(
 /// Takes at most so many characters of a plain run. The flag tells a stop before the count.
 #[tactic(auto, using(crate::proofs::Chunks::skips_none, crate::proofs::Chunks::steps_none))]
 pub fn skip_chunk<I: Input>(input: &mut I, count: usize, in_flow: bool) -> (bool, usize)
-    ensures chunk { SkipsChunk I.Input.prompt in_flow count result (I.Input.view input.old) (I.Input.view input.new) }
-    ensures steps { StepsChunk I.Input.prompt in_flow count result (I.Input.view input.old) (I.Input.view input.new) }
+    ensures chunk { SkipsChunk in_flow count result (I.Input.view input.old) (I.Input.view input.new) }
+    ensures steps { StepsChunk in_flow count result (I.Input.view input.old) (I.Input.view input.new) }
 {
     if count == 0 {
         return (false, 0);
@@ -91,8 +102,8 @@ pub fn skip_chunk<I: Input>(input: &mut I, count: usize, in_flow: bool) -> (bool
     (taken < count, taken)
 }
 
-/// The same, appended to a room.
-#[tactic(auto, using(crate::proofs::Chunks::chunk_beyond, crate::proofs::Chunks::steps_beyond, crate::proofs::Chunks::fetches_chunk_none, crate::proofs::Chunks::steps_fetch_none))]
+/// Takes the run of a plain chunk, and appends it to a room.
+#[tactic(auto, using(crate::proofs::Chunks::chunk_beyond, crate::proofs::Chunks::steps_beyond, crate::proofs::Chunks::fetches_chunk_none))]
 pub fn fetch_chunk<I: Input>(
     input: &mut I,
     room: &mut [u8],
@@ -100,8 +111,11 @@ pub fn fetch_chunk<I: Input>(
     count: usize,
     in_flow: bool,
 ) -> (bool, Fetched)
-    ensures chunk { FetchesChunk I.Input.prompt in_flow count room.old filled result room.new (I.Input.view input.old) (I.Input.view input.new) }
-    ensures steps { StepsFetch I.Input.prompt in_flow count room.old filled result room.new (I.Input.view input.old) (I.Input.view input.new) }
+    ensures chunk { FetchesChunk in_flow count room.old filled result room.new (I.Input.view input.old)
+        (I.Input.view input.new) }
+    ensures steps { StepsFetch in_flow count room.old filled result room.new (I.Input.view input.old)
+        (I.Input.view input.new) }
+    ensures untouched { beyond room.old filled ≡ true → input.new ≡ input.old }
 {
     if filled > room.len() {
         let refused = Fetched::new(0, filled, Some(Refusal::BeyondRoom));

@@ -1,7 +1,7 @@
 //! One run of a class, character by character.
 
 ghost use Rattle.std.specs.Prelude.{◌≡◌, ℕ, ◌≤◌, Bool, true, false, length, take, nat_lt};
-ghost use Rattle.input.specs.Calls.{first_of, Tells};
+ghost use Rattle.input.specs.View.{exactly};
 ghost use Rattle.runs.specs.Runs.{goes, run_by};
 ghost use Rattle.runs.specs.Scans.{Sees, Offers, Skims, Fetches};
 
@@ -11,35 +11,44 @@ use input::Input;
 use utf8::encoder::append;
 
 /// Whether a run goes on with a character that is next.
-fn goes_on<C: Class, I: Input>(input: &I, c: char, colon: Colon) -> bool
-    ensures { result ≡ goes C.Class.member colon c (I.Input.shown input.now 1) }
+fn goes_on<C: Class, I: Input>(input: &I, class: &C, c: char, colon: Colon) -> bool
+    ensures { result ≡ goes (C.Class.member class.now) colon c ((I.Input.shown input.now).at 1) }
 {
-    C::has(c)
+    class.has(c)
         && match colon {
             Colon::Free => true,
             Colon::Stops => c != ':',
-            Colon::Leads => c != ':' || C::has(input.peek_nth(1)),
+            Colon::Leads => c != ':' || class.has(input.peek_nth(1)),
         }
 }
 
 /// The next character, if the run goes on with it.
-fn next_of_run<C: Class, I: Input>(input: &mut I, colon: Colon) -> Option<char>
+fn next_of_run<C: Class, I: Input>(input: &mut I, class: &C, colon: Colon) -> Option<char>
     requires { Sees colon (I.Input.view input.old).window }
-    ensures { Offers I.Input.prompt (goes C.Class.member colon) result (I.Input.view input.old) (I.Input.view input.new) }
+    ensures { Offers (goes (C.Class.member class.now) colon) result (I.Input.view input.old)
+        (I.Input.view input.new) }
 {
     match input.next_ch() {
-        Some(c) if goes_on::<C, I>(input, c, colon) => Some(c),
+        Some(c) if goes_on(input, class, c, colon) => Some(c),
         _ => None,
     }
 }
 
 /// Takes a run, so many characters of it at most.
-pub(crate) fn skip_run<C: Class, I: Input>(input: &mut I, colon: Colon, most: usize) -> usize
+pub(crate) fn skip_run<C: Class, I: Input>(
+    input: &mut I,
+    class: &C,
+    colon: Colon,
+    most: usize,
+) -> usize
     requires { Sees colon (I.Input.view input.old).window }
-    ensures { Skims I.Input.prompt (nat_lt result most) 0 (take most (run_by (goes C.Class.member colon) (I.Input.view input.old).ahead)) result (I.Input.view input.old) (I.Input.view input.new) }
+    ensures { let v = I.Input.view input.old in
+        Skims (nat_lt result most) (exactly 0)
+        (take most (run_by (goes (C.Class.member class.now) colon) v.ahead)) result v
+        (I.Input.view input.new) }
 {
     for taken in 0..most {
-        if next_of_run::<C, I>(input, colon).is_none() {
+        if next_of_run(input, class, colon).is_none() {
             return taken;
         }
         input.skip();
@@ -50,17 +59,21 @@ pub(crate) fn skip_run<C: Class, I: Input>(input: &mut I, colon: Colon, most: us
 /// Takes a run, so many characters of it at most, and appends what fits to a room.
 pub(crate) fn fetch_run<C: Class, I: Input>(
     input: &mut I,
+    class: &C,
     colon: Colon,
     most: usize,
     room: &mut [u8],
     filled: usize,
 ) -> Fetched
     requires { (Sees colon (I.Input.view input.old).window) × (filled ≤ length room.old) }
-    ensures { Fetches I.Input.prompt (nat_lt result.count most) 0 (take most (run_by (goes C.Class.member colon) (I.Input.view input.old).ahead)) room.old filled result room.new (I.Input.view input.old) (I.Input.view input.new) }
+    ensures { let v = I.Input.view input.old in
+        Fetches (nat_lt result.count most) (exactly 0)
+        (take most (run_by (goes (C.Class.member class.now) colon) v.ahead)) room.old filled
+        result room.new v (I.Input.view input.new) }
 {
     let mut end = filled;
     for count in 0..most {
-        let Some(c) = next_of_run::<C, I>(input, colon) else {
+        let Some(c) = next_of_run(input, class, colon) else {
             return Fetched::new(count, end, None);
         };
         match append(c, room, end) {

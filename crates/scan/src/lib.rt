@@ -3,9 +3,10 @@
 
 ghost use Rattle.std.specs.Prelude.{◌≡◌, Bool, true, false, ℕ};
 ghost use Rattle.std.specs.Bool.{OnTrue};
+ghost use Rattle.input.specs.View.{exactly};
 ghost use Rattle.char_traits.specs.Chars.{blank, alpha, yaml_non_space, not_breakz, printable_not_breakz};
 ghost use Rattle.runs.specs.Runs.{run_of, plain_run};
-ghost use Rattle.runs.specs.Scans.{scan_asks, Skims, Fetches, SkipsChunk, FetchesChunk, StepsChunk, StepsFetch, SkipsBlanks, SkipsToEol};
+ghost use Rattle.runs.specs.Scans.{scan_look, Skims, Fetches, SkipsChunk, FetchesChunk, StepsChunk, StepsFetch, SkipsBlanks, SkipsToEol};
 
 pub mod rings;
 
@@ -20,50 +21,57 @@ use runs::{Fetched, SkipTabs, WhitespaceResult};
 /// The scanning calls, in the meaning of the input below. Each takes a run of what is ahead; a fetch appends it to a lent room.
 /// A kind of input keeps these bodies, which go character by character, or has its own.
 pub trait Scan: Input {
-    // whether a chunk goes character by character, up to its count
-    ghost by_character: { Bool } = { false };
-
     /// Takes the blanks ahead, and counts them.
     fn skip_while_blank(&mut self) -> usize
     where
         Self: Sized,
-        ensures { Skims Self.Input.prompt true (scan_asks Self.Input.prompt) (run_of blank (Self.Input.view self.old).ahead) result (Self.Input.view self.old) (Self.Input.view self.new) }
+        ensures { let v = Self.Input.view self.old in
+            Skims true (scan_look v.manner) (run_of blank v.ahead) result v
+            (Self.Input.view self.new) }
     {
-        skip_while::<Blank, Self>(self)
+        skip_while(self, &Blank)
     }
 
     /// Takes the printable characters ahead up to a breakz, and counts them.
     fn skip_while_non_breakz(&mut self) -> usize
     where
         Self: Sized,
-        ensures { Skims Self.Input.prompt true (scan_asks Self.Input.prompt) (run_of printable_not_breakz (Self.Input.view self.old).ahead) result (Self.Input.view self.old) (Self.Input.view self.new) }
+        ensures { let v = Self.Input.view self.old in
+            Skims true (scan_look v.manner) (run_of printable_not_breakz v.ahead) result v
+            (Self.Input.view self.new) }
     {
-        skip_while::<PrintableNotBreakz, Self>(self)
+        skip_while(self, &PrintableNotBreakz)
     }
 
     /// Takes and appends the letters, digits, `_` and `-` ahead.
     fn fetch_while_is_alpha(&mut self, room: &mut [u8], filled: usize) -> Fetched
     where
         Self: Sized,
-        ensures { Fetches Self.Input.prompt true (scan_asks Self.Input.prompt) (run_of alpha (Self.Input.view self.old).ahead) room.old filled result room.new (Self.Input.view self.old) (Self.Input.view self.new) }
+        ensures { let v = Self.Input.view self.old in
+            Fetches true (scan_look v.manner) (run_of alpha v.ahead) room.old filled result
+            room.new v (Self.Input.view self.new) }
     {
-        fetch_while::<Alpha, Self>(self, room, filled)
+        fetch_while(self, &Alpha, room, filled)
     }
 
     /// Takes and appends the printable characters ahead up to a blank, a break or a byte order mark.
     fn fetch_while_is_yaml_non_space(&mut self, room: &mut [u8], filled: usize) -> Fetched
     where
         Self: Sized,
-        ensures { Fetches Self.Input.prompt true (scan_asks Self.Input.prompt) (run_of yaml_non_space (Self.Input.view self.old).ahead) room.old filled result room.new (Self.Input.view self.old) (Self.Input.view self.new) }
+        ensures { let v = Self.Input.view self.old in
+            Fetches true (scan_look v.manner) (run_of yaml_non_space v.ahead) room.old filled
+            result room.new v (Self.Input.view self.new) }
     {
-        fetch_while::<YamlNonSpace, Self>(self, room, filled)
+        fetch_while(self, &YamlNonSpace, room, filled)
     }
 
-    /// Takes and appends the rest of the line, and leaves the window.
+    /// Takes and appends all up to a breakz or the end, and asks for no lookahead.
     fn fetch_block_scalar_line(&mut self, room: &mut [u8], filled: usize) -> Fetched
     where
         Self: Sized,
-        ensures { Fetches Self.Input.prompt true 0 (run_of not_breakz (Self.Input.view self.old).ahead) room.old filled result room.new (Self.Input.view self.old) (Self.Input.view self.new) }
+        ensures { let v = Self.Input.view self.old in
+            Fetches true (exactly 0) (run_of not_breakz v.ahead) room.old filled result room.new v
+            (Self.Input.view self.new) }
     {
         fetch_line(self, room, filled)
     }
@@ -72,16 +80,16 @@ pub trait Scan: Input {
     fn skip_ws_to_eol(&mut self, skip_tabs: SkipTabs) -> (usize, Result<WhitespaceResult, Refusal>)
     where
         Self: Sized,
-        ensures { SkipsToEol Self.Input.prompt skip_tabs result (Self.Input.view self.old) (Self.Input.view self.new) }
+        ensures { SkipsToEol skip_tabs result (Self.Input.view self.old) (Self.Input.view self.new) }
     {
         skip_to_eol(self, skip_tabs)
     }
 
-    /// The same without the comment.
+    /// Skips spaces, and tabs if asked, and no comment after them.
     fn skip_ws_to_eol_blanks(&mut self, skip_tabs: SkipTabs) -> (usize, WhitespaceResult)
     where
         Self: Sized,
-        ensures { SkipsBlanks Self.Input.prompt skip_tabs result (Self.Input.view self.old) (Self.Input.view self.new) }
+        ensures { SkipsBlanks skip_tabs result (Self.Input.view self.old) (Self.Input.view self.new) }
     {
         skip_blanks(self, skip_tabs)
     }
@@ -96,8 +104,11 @@ pub trait Scan: Input {
     ) -> (bool, Fetched)
     where
         Self: Sized,
-        ensures chunk { FetchesChunk Self.Input.prompt in_flow count room.old filled result room.new (Self.Input.view self.old) (Self.Input.view self.new) }
-        ensures steps { OnTrue Self.by_character (StepsFetch Self.Input.prompt in_flow count room.old filled result room.new (Self.Input.view self.old) (Self.Input.view self.new)) }
+        ensures chunk { FetchesChunk in_flow count room.old filled result room.new (Self.Input.view self.old)
+            (Self.Input.view self.new) }
+        ensures steps { let v = Self.Input.view self.old in
+            OnTrue v.manner.steps
+            (StepsFetch in_flow count room.old filled result room.new v (Self.Input.view self.new)) }
     {
         fetch_chunk(self, room, filled, count, in_flow)
     }
@@ -106,8 +117,9 @@ pub trait Scan: Input {
     fn skip_plain_scalar_chunk(&mut self, count: usize, in_flow: bool) -> (bool, usize)
     where
         Self: Sized,
-        ensures chunk { SkipsChunk Self.Input.prompt in_flow count result (Self.Input.view self.old) (Self.Input.view self.new) }
-        ensures steps { OnTrue Self.by_character (StepsChunk Self.Input.prompt in_flow count result (Self.Input.view self.old) (Self.Input.view self.new)) }
+        ensures chunk { SkipsChunk in_flow count result (Self.Input.view self.old) (Self.Input.view self.new) }
+        ensures steps { let v = Self.Input.view self.old in
+            OnTrue v.manner.steps (StepsChunk in_flow count result v (Self.Input.view self.new)) }
     {
         skip_chunk(self, count, in_flow)
     }
@@ -116,7 +128,9 @@ pub trait Scan: Input {
     fn fetch_plain_run(&mut self, room: &mut [u8], filled: usize, in_flow: bool) -> Fetched
     where
         Self: Sized,
-        ensures { Fetches Self.Input.prompt true 2 (plain_run in_flow (Self.Input.view self.old).ahead) room.old filled result room.new (Self.Input.view self.old) (Self.Input.view self.new) }
+        ensures { let v = Self.Input.view self.old in
+            Fetches true (exactly 2) (plain_run in_flow v.ahead) room.old filled result room.new v
+            (Self.Input.view self.new) }
     {
         fetch_plain(self, room, filled, in_flow)
     }
@@ -125,7 +139,8 @@ pub trait Scan: Input {
     fn skip_plain_run(&mut self, in_flow: bool) -> usize
     where
         Self: Sized,
-        ensures { Skims Self.Input.prompt true 2 (plain_run in_flow (Self.Input.view self.old).ahead) result (Self.Input.view self.old) (Self.Input.view self.new) }
+        ensures { let v = Self.Input.view self.old in
+            Skims true (exactly 2) (plain_run in_flow v.ahead) result v (Self.Input.view self.new) }
     {
         skip_plain(self, in_flow)
     }

@@ -1,39 +1,63 @@
-//! A card beside a cable: one list taken through a slice over a text and a ring over any failing source.
+//! A card beside a cable: one list taken through two new inputs that are made of a text and of a source.
 #![tactic(auto)]
 
-ghost use Rattle.std.specs.Prelude.{true, false, [], MatchResult};
-ghost use Rattle.std.specs.Str.{chars};
-ghost use Rattle.error.specs.Numbers.{clean, outcome};
+ghost use Rattle.std.specs.Prelude.{[], MatchResult};
+ghost use Rattle.error.specs.Numbers.{outcome};
 ghost use Rattle.utf8.specs.Checking.{Checked};
-ghost use Rattle.reading.specs.Reading.{log_of};
-ghost use Rattle.sides.specs.Beside.{Beside, Untouched};
+ghost use Rattle.reading.specs.Reading.{log_of, SameCalls};
+ghost use Rattle.reading.specs.Beside.{Beside, Untouched};
+ghost use Rattle.buffered.specs.Buffered.{ring_making};
+ghost use Rattle.buffered.specs.Fallible.{failing_making};
+ghost use Rattle.str_input.specs.Text.{text_making};
 
 pub mod radio;
 
+use buffered::buffered::BufferedInput;
 use buffered::fallible::FallibleBufferedInput;
 use error::Refusal;
-use input::ticket::Reading;
 use reading::call::Step;
-use reading::list::side_by_side_scanning;
-use source::FallibleSource;
+use reading::made::made_side_by_side;
+use reading::scanner::Own;
+use source::{FallibleSource, Source};
 use str_input::text::StrInput;
 
-/// Takes a new slice over a text and a new ring over a failing source through a list each.
+/// Takes a new slice over a text and a new ring over a failing source through a list each. Refused, with the lists as they were, exactly if the bytes
+/// are no text: 1 or 2.
 pub fn card_and_cable<F: FallibleSource + Drop>(
     text: &[u8],
-    source: F,
+    cable: F,
     one: &mut [Step],
     other: &mut [Step],
 ) -> Result<(), Refusal>
+    ensures one { SameCalls one.old one.new }
+    ensures other { SameCalls other.old other.new }
     ensures checked { Checked text.now (outcome (λ _. []) result) }
-    ensures beside { MatchResult result (λ _. Beside false true 128 16 (chars text.now) (F.FallibleSource.ahead source) clean (F.FallibleSource.ending source) (log_of one.old one.new) (log_of other.old other.new)) (λ _. Untouched one.old one.new other.old other.new) }
+    ensures beside { MatchResult result
+        (λ _. Beside (Unit {0}) F (text_making text.now) (failing_making F.ahead F.ending F.given cable)
+        (log_of one.old one.new) (log_of other.old other.new))
+        (λ _. Untouched one.old one.new other.old other.new) }
 {
-    let mut card = StrInput::new();
-    card.load(text)?;
-    let mut cable = FallibleBufferedInput::new(source);
-    let (held, beside) = side_by_side_scanning(&mut card, &mut cable, one, other, None, None);
-    // what the lists left open is closed
-    let _ = Reading::close_held(held, &mut card);
-    let _ = Reading::close_held(beside, &mut cable);
-    Ok(())
+    made_side_by_side::<&[u8], F, StrInput<'_>, FallibleBufferedInput<F>, Own, Own>(
+        text, cable, one, other,
+    )
+}
+
+/// Takes a list through a card and through a ring over a source that always ends clean.
+pub fn card_and_ring<S: Source + Drop>(
+    text: &[u8],
+    source: S,
+    one: &mut [Step],
+    other: &mut [Step],
+) -> Result<(), Refusal>
+    ensures one { SameCalls one.old one.new }
+    ensures other { SameCalls other.old other.new }
+    ensures checked { Checked text.now (outcome (λ _. []) result) }
+    ensures beside { MatchResult result
+        (λ _. Beside (Unit {0}) S (text_making text.now) (ring_making S.ahead source)
+        (log_of one.old one.new) (log_of other.old other.new))
+        (λ _. Untouched one.old one.new other.old other.new) }
+{
+    made_side_by_side::<&[u8], S, StrInput<'_>, BufferedInput<S>, Own, Own>(
+        text, source, one, other,
+    )
 }

@@ -1,21 +1,22 @@
 -- What the scans of a text promise, from the characters that were taken. Assumes nothing.
-use Rattle.std.proofs.Common.{◌≡◌, ℕ, ◌+◌, ◌≤◌, min, Bool, true, false, cond, ◌&&◌, List, [], ◌∷◌, length, drop, sym, refl, ap, ◌∙◌, subst, arith, length-append, length-take}
-use Rattle.std.proofs.lemmas.List.{take_all}
+use Rattle.std.proofs.Common.{◌≡◌, ℕ, ◌+◌, ◌≤◌, min, Bool, true, false, cond, ◌&&◌, List, [], ◌∷◌, length, drop, Ok, sym, refl, ap, ◌∙◌, subst, arith, length-append, length-take}
+use Rattle.std.proofs.lemmas.List.{take_all, drop-drop}
 use Rattle.std.proofs.lemmas.Bool.{false≢true, cond-true, cond-false}
 use Rattle.std.proofs.lemmas.Str.{length-le-encodes}
 use Rattle.error.specs.Limit.{text_limit}
-use Rattle.input.specs.View.{Keeps}
+use Rattle.input.specs.View.{Look, exactly, Keeps}
 use Rattle.input.specs.Calls.{none_left}
 use Rattle.char_traits.specs.Chars.{not_breakz}
 use Rattle.runs.specs.declared.Fetched.{Fetched}
 use Rattle.runs.specs.declared.SkipTabs.{SkipTabs}
+use Rattle.runs.specs.declared.WhitespaceResult.{WhitespaceResult}
 use Rattle.runs.specs.Runs.{run_by, run_of, plain_run, blanks_of, at_hash, comment_of, after_blanks, eol_run, unseparated}
 use Rattle.runs.specs.Rooms.{beyond}
-use Rattle.runs.specs.Scans.{chunk_asks, Skims, Fetches, FetchesChunk}
+use Rattle.runs.specs.Scans.{scan_look, chunk_look, room_look, flags_of, Fetches, FetchesChunk, SkipsBlanks, SkipsToEol}
 use Rattle.text_bytes.specs.Ends.{AppendsRun}
 use Rattle.text_bytes.proofs.Running.{run_front}
 use Rattle.str_input.specs.declared.text.StrInput.{StrInput}
-use Rattle.str_input.specs.Text.{ahead_of, text_view, Takes}
+use Rattle.str_input.specs.Text.{ahead_of, text_manner, text_view, Takes}
 use Rattle.str_input.specs.Laws.{text_short}
 
 -- a run is no longer than its text
@@ -25,40 +26,47 @@ run_short x go =
     let l : length run ≡ min (length run) (length (ahead_of x)) = ap length (run_front go (ahead_of x)) ∙ length-take (length run) (ahead_of x) in
     omega (arith, l, length-le-encodes (ahead_of x), text_short x, x.short)
 
-keeps : (finds : Bool) (asks n : ℕ) (x y : StrInput) → Takes n x y → Keeps false finds asks (text_view x) (text_view y)
-keeps finds asks n x y t =
+keeps : (finds : Bool) (look : Look) (n : ℕ) (x y : StrInput) → Takes n x y → Keeps finds look (text_view x) (text_view y)
+keeps finds look n x y t =
     record {
+      manner = refl;
       ending = refl;
       window = omega (arith, t.window);
       stays = λ _. refl;
+      still = λ _. refl;
       meets = λ _. refl;
       narrow = λ e. absurd (false≢true e);
+      steady = λ _. omega (arith, t.window);
       late = λ e. absurd (false≢true e);
     }
 
-pub skims : (run : List ℕ) (n : ℕ) (x y : StrInput) → n ≡ length run → Takes n x y → Skims false true 0 run n (text_view x) (text_view y)
-skims run n x y e t =
-    record { keeps = keeps (none_left (ahead_of y)) 0 n x y t; told = refl; wide = omega arith; number = e; ahead = t.ahead }
+pub takes_both : (x u y : StrInput) (n m : ℕ) → Takes n x u → Takes m u y → Takes (n + m) x y
+takes_both x u y n m t s =
+    record {
+      text = s.text ∙ t.text;
+      window = s.window ∙ t.window;
+      ahead = s.ahead ∙ ap (drop m) t.ahead ∙ drop-drop m n (ahead_of x) ∙ ap (λ k. drop k (ahead_of x)) (omega arith);
+    }
 
 -- a chunk is all of a run
 pub fetches_chunk : (in_flow : Bool) (count : ℕ) (room : List ℕ) (filled : ℕ) (r : Fetched) (left : List ℕ) (x y : StrInput)
     → AppendsRun (plain_run in_flow (ahead_of x)) room filled r left → Takes r.count x y → (beyond room filled ≡ true → y ≡ x)
-    → FetchesChunk false in_flow count room filled (true, r) left (text_view x) (text_view y)
+    → FetchesChunk in_flow count room filled (true, r) left (text_view x) (text_view y)
 fetches_chunk in_flow count room filled r left x y a t u =
     let run = plain_run in_flow (ahead_of x) in
     record { wants = length run; fetches = subst whole (sym (take_all (length run) run (omega arith))) all }
   where
     whole : List ℕ → Type 0
-    whole run = Fetches false false (chunk_asks false count) run room filled r left (text_view x) (text_view y)
+    whole run = Fetches false (chunk_look text_manner count) run room filled r left (text_view x) (text_view y)
 
-    small : (b : Bool) → min 16 (cond b 0 (chunk_asks false count)) ≤ y.window
+    small : (b : Bool) → min 16 (cond b (exactly 0) (chunk_look text_manner count)).least ≤ y.window
     small true = omega arith
     small false = omega arith
 
     all : whole (plain_run in_flow (ahead_of x))
     all =
         record {
-          keeps = keeps false (cond (beyond room filled) 0 (chunk_asks false count)) r.count x y t;
+          keeps = keeps false (room_look room filled (chunk_look text_manner count)) r.count x y t;
           told = refl;
           wide = small (beyond room filled);
           number = a.number;
@@ -66,7 +74,7 @@ fetches_chunk in_flow count room filled r left x y a t u =
           refusal = a.refusal;
           bytes = a.bytes;
           ahead = t.ahead ∙ ap (λ k. drop k (ahead_of x)) a.number;
-          unmoved = λ e. ap text_view (u e);
+          unmoved = λ e _. ap text_view (u e);
         }
 
 -- blanks, and then a comment
@@ -93,3 +101,22 @@ module _ (tabs : SkipTabs) (ahead : List ℕ) (k : ℕ) (is : k ≡ length (blan
 
   pub separated : unseparated tabs ahead ≡ false
   separated = ap (λ b. b && at_hash ahead) some
+
+-- blanks and a comment in a text
+pub skips_comment : (tabs : SkipTabs) (x u y : StrInput) (n m : ℕ) (seen : WhitespaceResult) → SkipsBlanks tabs (n, seen) (text_view x) (text_view u) → Takes n x u
+    → at_hash (ahead_of u) ≡ true → (n ≡ 0 → ⊥) → m ≡ length (run_of not_breakz (ahead_of u)) → Takes m u y → SkipsToEol tabs (n + m, Ok seen) (text_view x) (text_view y)
+skips_comment tabs x u y n m seen b t hash more number s =
+    let both = takes_both x u y n m t s in
+    record {
+      skims =
+          record {
+            keeps = keeps (none_left (ahead_of y)) (scan_look text_manner) (n + m) x y both;
+            told = refl;
+            wide = omega arith;
+            number = eol_number tabs (ahead_of x) n b.skims.number more m (ahead_of u) t.ahead hash number;
+            ahead = both.ahead;
+          };
+      answer =
+          ap (λ f. (0, f)) b.seen
+          ∙ sym (ap (λ (z : Bool). cond z (5, []) (0, flags_of (blanks_of tabs (ahead_of x)))) (separated tabs (ahead_of x) n b.skims.number more));
+    }

@@ -1,13 +1,11 @@
 //! The text as an input.
 
-ghost use Rattle.std.specs.Prelude.{◌≡◌, ◌<◌, false, [], Ok, MatchResult};
+ghost use Rattle.std.specs.Prelude.{◌≡◌, ◌≤◌, min, [], MatchResult};
 ghost use Rattle.error.specs.Numbers.{outcome};
 ghost use Rattle.utf8.specs.Checking.{Checked};
-ghost use Rattle.input.specs.Calls.{none_left, taken_by, Looks, Reads, ReadsInLine, Skips, Tells, Asks};
-ghost use Rattle.input.specs.Tests.{flag, mark, Matches, Marks, marker_in};
-ghost use Rattle.text_bytes.specs.Bytes.{begins};
+ghost use Rattle.input.specs.Calls.{taken_by, Looks, Reads, ReadsInLine, Skips, Tells, Asks};
 ghost use Rattle.text_bytes.specs.Cursors.{Starts};
-ghost use Rattle.str_input.specs.Text.{whole, ahead_of, text_view, text_shows, Takes, Widens, Opens};
+ghost use Rattle.str_input.specs.Text.{whole, text_view, text_shown, Takes, Widens, Opens};
 ghost use Rattle.str_input.specs.Laws.{text_sound, text_faithful, text_wide};
 
 use crate::text::StrInput;
@@ -55,11 +53,9 @@ impl<'a> StrInput<'a> {
 impl Input for StrInput<'_> {
     ghost view = { text_view };
 
-    ghost shown = { text_shows };
+    ghost shown = { text_shown };
 
-    ghost most = { 128 };
-
-    ghost prompt = { false };
+    ghost most = { λ _. 128 };
 
     ghost sound = { text_sound };
 
@@ -68,7 +64,8 @@ impl Input for StrInput<'_> {
     ghost wide = { text_wide };
 
     fn lookahead(&mut self, count: usize)
-        ensures looks { Looks false 128 count (text_view self.old) (text_view self.new) }
+        ensures looks { Looks count (text_view self.old) (text_view self.new) }
+        ensures most { min count 128 ≤ (text_view self.new).window }
         ensures widens { Widens count self.old self.new }
     {
         self.window = self.window.max(count);
@@ -83,7 +80,7 @@ impl Input for StrInput<'_> {
     }
 
     fn raw_read_ch(&mut self) -> char
-        ensures reads { Reads false result (text_view self.old) (text_view self.new) }
+        ensures reads { Reads result (text_view self.old) (text_view self.new) }
         ensures takes { Takes 1 self.old self.new }
     {
         match self.at.first() {
@@ -96,7 +93,7 @@ impl Input for StrInput<'_> {
     }
 
     fn raw_read_non_breakz_ch(&mut self) -> Option<char>
-        ensures reads { ReadsInLine false result (text_view self.old) (text_view self.new) }
+        ensures reads { ReadsInLine result (text_view self.old) (text_view self.new) }
         ensures takes { Takes (taken_by result) self.old self.new }
     {
         match self.at.first() {
@@ -109,14 +106,14 @@ impl Input for StrInput<'_> {
     }
 
     fn skip(&mut self)
-        ensures skips { Skips false 1 (text_view self.old) (text_view self.new) }
+        ensures skips { Skips 1 (text_view self.old) (text_view self.new) }
         ensures takes { Takes 1 self.old self.new }
     {
         self.skip_n(1);
     }
 
     fn skip_n(&mut self, count: usize)
-        ensures skips { Skips false count (text_view self.old) (text_view self.new) }
+        ensures skips { Skips count (text_view self.old) (text_view self.new) }
         ensures takes { Takes count self.old self.new }
     {
         let end = self.at.past(count);
@@ -124,7 +121,7 @@ impl Input for StrInput<'_> {
     }
 
     fn next_ch(&mut self) -> Option<char>
-        ensures tells { Tells false result (text_view self.old) (text_view self.new) }
+        ensures tells { Tells result (text_view self.old) (text_view self.new) }
         ensures takes { Takes 0 self.old self.new }
     {
         self.at.first().map(|(c, _)| c)
@@ -134,29 +131,20 @@ impl Input for StrInput<'_> {
         self.at.nth(n)
     }
 
-    fn next_is_z(&self) -> bool
-        ensures windowed { 0 < (text_view self.now).window → result ≡ none_left (text_view self.now).ahead }
-        ensures ended { result ≡ none_left (ahead_of self.now) }
-    {
+    fn next_is_z(&self) -> bool {
         self.at.is_end()
     }
 
-    fn next_are(&self, wanted: &[char]) -> Result<bool, Refusal>
-        ensures matches { Matches wanted.now (text_view self.now).window (text_shows self.now) (outcome flag result) }
-        ensures there { result ≡ Ok (begins wanted.now (ahead_of self.now)) }
-    {
+    fn next_are(&self, wanted: &[char]) -> Result<bool, Refusal> {
         Ok(self.at.begins_with(wanted))
     }
 
-    fn next_marker(&self) -> Result<Option<Marker>, Refusal>
-        ensures marks { Marks (text_view self.now).window (text_shows self.now) (outcome mark result) }
-        ensures marked { result ≡ Ok (marker_in (text_shows self.now)) }
-    {
+    fn next_marker(&self) -> Result<Option<Marker>, Refusal> {
         Ok(self.at.marker())
     }
 
     fn take_source_error(&mut self) -> Option<Fault>
-        ensures asks { Asks false result (text_view self.old) (text_view self.new) }
+        ensures asks { Asks result (text_view self.old) (text_view self.new) }
         ensures takes { Takes 0 self.old self.new }
     {
         self.met_fault()

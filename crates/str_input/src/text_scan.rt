@@ -1,11 +1,12 @@
 //! The scanning calls over the text's bytes: each finds the end of its run first, and a fetch copies it at once.
 
 ghost use Rattle.std.specs.Prelude.{◌≡◌, true, false, length, if◌then◌else◌};
+ghost use Rattle.input.specs.View.{exactly};
 ghost use Rattle.char_traits.specs.Chars.{blank, alpha, yaml_non_space, not_breakz, printable_not_breakz};
 ghost use Rattle.runs.specs.Runs.{goes, run_by, run_of, plain_run, at_hash};
 ghost use Rattle.runs.specs.Rooms.{beyond};
-ghost use Rattle.runs.specs.Scans.{scan_asks, Skims, Fetches, SkipsChunk, FetchesChunk, SkipsBlanks, SkipsToEol};
-ghost use Rattle.str_input.specs.Text.{ahead_of, text_view, Takes, TakesWide};
+ghost use Rattle.runs.specs.Scans.{scan_look, Skims, Fetches, SkipsChunk, FetchesChunk, SkipsBlanks, SkipsToEol};
+ghost use Rattle.str_input.specs.Text.{ahead_of, text_manner, text_view, Takes, TakesWide};
 ghost use Rattle.text_bytes.specs.Ends.{AppendsRun};
 
 use crate::text::StrInput;
@@ -18,21 +19,27 @@ use runs::{Colon, Fetched, SkipTabs, WhitespaceResult};
 use scan::Scan;
 
 impl StrInput<'_> {
-    fn skip_run<C: Class>(&mut self, colon: Colon) -> usize
-        ensures number { result ≡ length (run_by (goes C.Class.member colon) (ahead_of self.old)) }
+    fn skip_run<C: Class>(&mut self, class: &C, colon: Colon) -> usize
+        ensures number { result ≡ length (run_by (goes (C.Class.member class.now) colon) (ahead_of self.old)) }
         ensures takes { Takes result self.old self.new }
     {
-        let (end, count) = self.at.run_end::<C>(colon);
+        let (end, count) = self.at.run_end(class, colon);
         self.move_to(end);
         count
     }
 
-    fn fetch_run<C: Class>(&mut self, colon: Colon, room: &mut [u8], filled: usize) -> Fetched
-        ensures appends { AppendsRun (run_by (goes C.Class.member colon) (ahead_of self.old)) room.old filled result room.new }
+    fn fetch_run<C: Class>(
+        &mut self,
+        class: &C,
+        colon: Colon,
+        room: &mut [u8],
+        filled: usize,
+    ) -> Fetched
+        ensures appends { AppendsRun (run_by (goes (C.Class.member class.now) colon) (ahead_of self.old)) room.old filled result room.new }
         ensures takes { Takes result.count self.old self.new }
         ensures unmoved { beyond room.old filled ≡ true → self.new ≡ self.old }
     {
-        let (end, fetched) = self.at.fetch_run::<C>(colon, room, filled);
+        let (end, fetched) = self.at.fetch_run(class, colon, room, filled);
         // A fetch that takes nothing leaves the reader as it was.
         if fetched.count > 0 {
             self.move_to(end);
@@ -45,9 +52,9 @@ impl StrInput<'_> {
         ensures takes { Takes result self.old self.new }
     {
         if in_flow {
-            self.skip_run::<PlainSafeInFlow>(Colon::Leads)
+            self.skip_run(&PlainSafeInFlow, Colon::Leads)
         } else {
-            self.skip_run::<PlainSafe>(Colon::Leads)
+            self.skip_run(&PlainSafe, Colon::Leads)
         }
     }
 
@@ -57,9 +64,9 @@ impl StrInput<'_> {
         ensures unmoved { beyond room.old filled ≡ true → self.new ≡ self.old }
     {
         if in_flow {
-            self.fetch_run::<PlainSafeInFlow>(Colon::Leads, room, filled)
+            self.fetch_run(&PlainSafeInFlow, Colon::Leads, room, filled)
         } else {
-            self.fetch_run::<PlainSafe>(Colon::Leads, room, filled)
+            self.fetch_run(&PlainSafe, Colon::Leads, room, filled)
         }
     }
 
@@ -72,45 +79,45 @@ impl StrInput<'_> {
 
 impl Scan for StrInput<'_> {
     fn skip_while_blank(&mut self) -> usize
-        ensures skims { Skims false true (scan_asks false) (run_of blank (text_view self.old).ahead) result (text_view self.old) (text_view self.new) }
+        ensures skims { Skims true (scan_look text_manner) (run_of blank (text_view self.old).ahead) result (text_view self.old) (text_view self.new) }
         ensures takes { Takes result self.old self.new }
     {
-        self.skip_run::<Blank>(Colon::Free)
+        self.skip_run(&Blank, Colon::Free)
     }
 
     fn skip_while_non_breakz(&mut self) -> usize
-        ensures skims { Skims false true (scan_asks false) (run_of printable_not_breakz (text_view self.old).ahead) result (text_view self.old) (text_view self.new) }
+        ensures skims { Skims true (scan_look text_manner) (run_of printable_not_breakz (text_view self.old).ahead) result (text_view self.old) (text_view self.new) }
         ensures takes { Takes result self.old self.new }
     {
-        self.skip_run::<PrintableNotBreakz>(Colon::Free)
+        self.skip_run(&PrintableNotBreakz, Colon::Free)
     }
 
     fn fetch_while_is_alpha(&mut self, room: &mut [u8], filled: usize) -> Fetched
-        ensures fetches { Fetches false true (scan_asks false) (run_of alpha (text_view self.old).ahead) room.old filled result room.new (text_view self.old) (text_view self.new) }
+        ensures fetches { Fetches true (scan_look text_manner) (run_of alpha (text_view self.old).ahead) room.old filled result room.new (text_view self.old) (text_view self.new) }
         ensures takes { Takes result.count self.old self.new }
         ensures unmoved { beyond room.old filled ≡ true → self.new ≡ self.old }
     {
-        self.fetch_run::<Alpha>(Colon::Free, room, filled)
+        self.fetch_run(&Alpha, Colon::Free, room, filled)
     }
 
     fn fetch_while_is_yaml_non_space(&mut self, room: &mut [u8], filled: usize) -> Fetched
-        ensures fetches { Fetches false true (scan_asks false) (run_of yaml_non_space (text_view self.old).ahead) room.old filled result room.new (text_view self.old) (text_view self.new) }
+        ensures fetches { Fetches true (scan_look text_manner) (run_of yaml_non_space (text_view self.old).ahead) room.old filled result room.new (text_view self.old) (text_view self.new) }
         ensures takes { Takes result.count self.old self.new }
         ensures unmoved { beyond room.old filled ≡ true → self.new ≡ self.old }
     {
-        self.fetch_run::<YamlNonSpace>(Colon::Free, room, filled)
+        self.fetch_run(&YamlNonSpace, Colon::Free, room, filled)
     }
 
     fn fetch_block_scalar_line(&mut self, room: &mut [u8], filled: usize) -> Fetched
-        ensures fetches { Fetches false true 0 (run_of not_breakz (text_view self.old).ahead) room.old filled result room.new (text_view self.old) (text_view self.new) }
+        ensures fetches { Fetches true (exactly 0) (run_of not_breakz (text_view self.old).ahead) room.old filled result room.new (text_view self.old) (text_view self.new) }
         ensures takes { Takes result.count self.old self.new }
         ensures unmoved { beyond room.old filled ≡ true → self.new ≡ self.old }
     {
-        self.fetch_run::<NotBreakz>(Colon::Free, room, filled)
+        self.fetch_run(&NotBreakz, Colon::Free, room, filled)
     }
 
     fn skip_ws_to_eol(&mut self, skip_tabs: SkipTabs) -> (usize, Result<WhitespaceResult, Refusal>)
-        ensures skips { SkipsToEol false skip_tabs result (text_view self.old) (text_view self.new) }
+        ensures skips { SkipsToEol skip_tabs result (text_view self.old) (text_view self.new) }
         ensures takes { Takes result.0 self.old self.new }
     {
         let (blanks, seen) = self.skip_ws_to_eol_blanks(skip_tabs);
@@ -120,12 +127,12 @@ impl Scan for StrInput<'_> {
         if blanks == 0 {
             return (0, Err(Refusal::CommentNotSeparated));
         }
-        let comment = self.skip_run::<NotBreakz>(Colon::Free);
+        let comment = self.skip_run(&NotBreakz, Colon::Free);
         (blanks + comment, Ok(seen))
     }
 
     fn skip_ws_to_eol_blanks(&mut self, skip_tabs: SkipTabs) -> (usize, WhitespaceResult)
-        ensures skips { SkipsBlanks false skip_tabs result (text_view self.old) (text_view self.new) }
+        ensures skips { SkipsBlanks skip_tabs result (text_view self.old) (text_view self.new) }
         ensures takes { Takes result.0 self.old self.new }
     {
         let start = self.at.place;
@@ -143,7 +150,7 @@ impl Scan for StrInput<'_> {
         count: usize,
         in_flow: bool,
     ) -> (bool, Fetched)
-        ensures fetches { FetchesChunk false in_flow count room.old filled result room.new (text_view self.old) (text_view self.new) }
+        ensures fetches { FetchesChunk in_flow count room.old filled result room.new (text_view self.old) (text_view self.new) }
         ensures all { AppendsRun (plain_run in_flow (ahead_of self.old)) room.old filled result.1 room.new }
         ensures stopped { result.0 ≡ true }
         ensures takes { Takes result.1.count self.old self.new }
@@ -154,7 +161,7 @@ impl Scan for StrInput<'_> {
 
     /// The whole plain run, whatever the count.
     fn skip_plain_scalar_chunk(&mut self, count: usize, in_flow: bool) -> (bool, usize)
-        ensures skips { SkipsChunk false in_flow count result (text_view self.old) (text_view self.new) }
+        ensures skips { SkipsChunk in_flow count result (text_view self.old) (text_view self.new) }
         ensures all { result.1 ≡ length (plain_run in_flow (ahead_of self.old)) }
         ensures stopped { result.0 ≡ true }
         ensures takes { Takes result.1 self.old self.new }
@@ -163,7 +170,7 @@ impl Scan for StrInput<'_> {
     }
 
     fn fetch_plain_run(&mut self, room: &mut [u8], filled: usize, in_flow: bool) -> Fetched
-        ensures fetches { Fetches false true 2 (plain_run in_flow (text_view self.old).ahead) room.old filled result room.new (text_view self.old) (text_view self.new) }
+        ensures fetches { Fetches true (exactly 2) (plain_run in_flow (text_view self.old).ahead) room.old filled result room.new (text_view self.old) (text_view self.new) }
         ensures takes { TakesWide (if beyond room.old filled then 0 else 2) result.count self.old self.new }
         ensures unmoved { beyond room.old filled ≡ true → self.new ≡ self.old }
     {
@@ -174,7 +181,7 @@ impl Scan for StrInput<'_> {
     }
 
     fn skip_plain_run(&mut self, in_flow: bool) -> usize
-        ensures skims { Skims false true 2 (plain_run in_flow (text_view self.old).ahead) result (text_view self.old) (text_view self.new) }
+        ensures skims { Skims true (exactly 2) (plain_run in_flow (text_view self.old).ahead) result (text_view self.old) (text_view self.new) }
         ensures takes { TakesWide 2 result self.old self.new }
     {
         self.lookahead(2);

@@ -77,11 +77,14 @@ impl<'a> Cursor<'a> {
         ensures { Passes self.now count result }
     {
         let mut at = *self;
-        for _ in 0..count {
-            match at.first() {
-                Some((_, next)) => at = next,
-                None => return at,
-            }
+        let mut left = count;
+        // The walk ends with the text, however large the count is.
+        while left > 0 {
+            let Some((_, next)) = at.first() else {
+                return at;
+            };
+            at = next;
+            left -= 1;
         }
         at
     }

@@ -12,13 +12,13 @@ use char_traits::class::Class;
 use runs::{Colon, SkipTabs, WhitespaceResult};
 
 /// Whether a run goes on with a character, by the place after it.
-fn goes_on<C: Class>(c: char, next: Cursor<'_>, colon: Colon) -> bool
-    ensures { result ≡ goes C.Class.member colon c (shows (ahead_from next.entry) 0) }
+fn goes_on<C: Class>(class: &C, c: char, next: Cursor<'_>, colon: Colon) -> bool
+    ensures { result ≡ goes (C.Class.member class.now) colon c (shows (ahead_from next.entry) 0) }
 {
     match colon {
-        Colon::Free => C::has(c),
-        Colon::Stops => C::has(c) && c != ':',
-        Colon::Leads => C::has(c) && (c != ':' || C::has(next.nth(0))),
+        Colon::Free => class.has(c),
+        Colon::Stops => class.has(c) && c != ':',
+        Colon::Leads => class.has(c) && (c != ':' || class.has(next.nth(0))),
     }
 }
 
@@ -33,13 +33,13 @@ fn is_separator(byte: u8, tabs: SkipTabs) -> bool
 
 impl<'a> Cursor<'a> {
     /// Where the run from the place on ends, and how many characters it has.
-    pub fn run_end<C: Class>(&self, colon: Colon) -> (Cursor<'a>, usize)
-        ensures { Ends self.now (run_by (goes C.Class.member colon) (ahead_from self.now)) result.0 result.1 }
+    pub fn run_end<C: Class>(&self, class: &C, colon: Colon) -> (Cursor<'a>, usize)
+        ensures { Ends self.now (run_by (goes (C.Class.member class.now) colon) (ahead_from self.now)) result.0 result.1 }
     {
         let mut end = *self;
         let mut count = 0;
         while let Some((c, next)) = end.first() {
-            if !goes_on::<C>(c, next, colon) {
+            if !goes_on(class, c, next, colon) {
                 break;
             }
             end = next;

@@ -86,11 +86,12 @@ impl<'a> Cursor<'a> {
     /// Appends as much of the run from the place on as fits, and answers the place after it.
     pub fn fetch_run<C: Class>(
         &self,
+        class: &C,
         colon: Colon,
         room: &mut [u8],
         filled: usize,
     ) -> (Cursor<'a>, Fetched)
-        ensures { FetchesAt self.now (run_by (goes C.Class.member colon) (ahead_from self.now)) room.old filled result.0 result.1 room.new }
+        ensures { FetchesAt self.now (run_by (goes (C.Class.member class.now) colon) (ahead_from self.now)) room.old filled result.0 result.1 room.new }
     {
         if filled > room.len() {
             let beyond = Fetched {
@@ -100,7 +101,7 @@ impl<'a> Cursor<'a> {
             };
             return (*self, beyond);
         }
-        let (end, count) = self.run_end::<C>(colon);
+        let (end, count) = self.run_end(class, colon);
         self.fetch_part(end, count, room, filled)
     }
 }

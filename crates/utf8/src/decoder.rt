@@ -1,7 +1,7 @@
 //! One character out of bytes.
 
-ghost use Rattle.std.specs.Prelude.{◌≡◌, ◌%◌, drop};
-ghost use Rattle.utf8.specs.Table.{row1, row2, row3, row4};
+ghost use Rattle.std.specs.Prelude.{◌≡◌, ◌%◌, drop, MatchOption};
+ghost use Rattle.utf8.specs.Table.{row1, row2, row3, row4, NoRow, RowsHave};
 ghost use Rattle.utf8.specs.Decoding.{told, Leads, Decodes, Reads, Returns};
 
 /// No front of some bytes is a character.
@@ -68,8 +68,11 @@ fn character(row: &[u8]) -> Option<char>
 }
 
 /// How many bytes a character has, by the count of leading one bits of its first byte, if one begins so.
-fn width_of(first: u8) -> Option<usize>
-    ensures { Leads first result }
+#[inline(always)]
+#[tactic(auto, using(crate::proofs::Leads::row_told))]
+pub fn width_of(first: u8) -> Option<usize>
+    ensures leads { Leads first result }
+    ensures rows { MatchOption result (NoRow first) (RowsHave first) }
 {
     match first.leading_ones() {
         0 => Some(1),
@@ -105,10 +108,10 @@ pub fn decode(text: &[u8], place: usize) -> Result<Option<(char, usize)>, IllFor
     if place >= text.len() {
         return Ok(None);
     }
-    // Most characters are ASCII: these are told with no call, and no slice is cut.
-    let byte = text[place];
-    if byte < 0x80 {
-        return Ok(Some((char::from(byte), 1)));
+    let first = text[place];
+    match width_of(first) {
+        // Most characters are ASCII: these are told with no call, and no slice is cut.
+        Some(1) => Ok(Some((char::from(first), 1))),
+        _ => front(&text[place..]),
     }
-    front(&text[place..])
 }

@@ -13,3 +13,5 @@ mod lists;
 mod scan_lists;
 #[cfg(test)]
 mod scans;
+#[cfg(test)]
+mod steps;

@@ -1,13 +1,21 @@
 //! Lists taken through card, cable and radio.
 
+use buffered::fallible::FallibleBufferedInput;
+use choice::OneOf;
 use error::{Fault, FaultKind};
-use input::Closing;
-use reading::call::{Answer, Call, Step};
+use input::ticket::Reading;
+use input::{Closing, Input};
+use reading::call::{Answer, Call, ScanCall, SkipCall, Step};
+use reading::list::side_by_side_scanning;
 use receiver::packets::Packets;
 use sides::card_and_cable;
 use sides::radio::radio_and_card;
 use source::codes::{Codes, CodesEnding};
 use std::test::*;
+use str_input::text::StrInput;
+
+// A card's slice or a cable's ring, by what was plugged in.
+type Plugged<'a> = OneOf<StrInput<'a>, FallibleBufferedInput<Codes<'a>>>;
 
 pub(crate) const LOST: Fault = Fault {
     kind: FaultKind::InputIo,
@@ -92,5 +100,52 @@ fn radio_beside_card(rt: HostRuntime) -> Result<(), Fail> {
     assert_eq!(rt; character(&other[1]), Some('b'));
     assert!(rt; matches!(one[3].answer, Answer::Closed(Closing::Whole)));
     assert!(rt; matches!(other[3].answer, Answer::Closed(Closing::Whole)));
+    Ok(())
+}
+
+fn blank_and_letter() -> [Step; 8] {
+    [
+        Step::new(Call::Open),
+        Step::new(Call::Scan(ScanCall::SkipRun(SkipCall::WhileBlank))),
+        Step::new(Call::TakeSourceError),
+        Step::new(Call::Read),
+        Step::new(Call::NextCh),
+        Step::new(Call::TakeSourceError),
+        Step::new(Call::TakeSourceError),
+        Step::new(Call::Close),
+    ]
+}
+
+// The window's room and the ending are those of what was plugged in.
+#[test]
+fn plugged_in_card_beside_cable(rt: HostRuntime) -> Result<(), Fail> {
+    let mut slice = StrInput::new();
+    slice.load(b" a")?;
+    let mut source = Codes::new();
+    source.load(&[0x20, 0x61], CodesEnding::InputIo)?;
+    let mut card: Plugged<'_> = OneOf::First(slice);
+    let mut cable: Plugged<'_> = OneOf::Second(FallibleBufferedInput::new(source));
+    let mut one = blank_and_letter();
+    let mut other = blank_and_letter();
+    let (held, beside) = side_by_side_scanning(
+        &mut card, &mut cable, &mut one, &mut other, None, None,
+    );
+    let _ = Reading::close_held(held, &mut card);
+    let _ = Reading::close_held(beside, &mut cable);
+    assert_eq!(rt; card.bufmaxlen(), 128);
+    assert_eq!(rt; cable.bufmaxlen(), 16);
+    assert_eq!(rt; cable.buflen(), 1);
+    assert!(rt; matches!(one[1].answer, Answer::Count(1)));
+    assert!(rt; matches!(other[1].answer, Answer::Count(1)));
+    assert_eq!(rt; fault(&other[2]), None);
+    assert_eq!(rt; character(&one[3]), Some('a'));
+    assert_eq!(rt; character(&other[3]), Some('a'));
+    assert_eq!(rt; character(&one[4]), None);
+    assert_eq!(rt; character(&other[4]), None);
+    assert_eq!(rt; fault(&one[5]), None);
+    assert_eq!(rt; fault(&other[5]), Some(LOST));
+    assert_eq!(rt; fault(&other[6]), None);
+    assert!(rt; matches!(one[7].answer, Answer::Closed(Closing::Whole)));
+    assert_eq!(rt; fault(&other[7]), Some(LOST));
     Ok(())
 }

@@ -2,4 +2,4 @@ use Rattle.examples.proofs.Working.{worked}
 use Rattle.examples.proofs.worked_examples.Goals as goal
 
 pub returns : goal.returns
-returns c = worked
+returns g c = worked g.I.Input.Held

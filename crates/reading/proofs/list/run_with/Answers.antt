@@ -1,7 +1,14 @@
-use Rattle.reading.proofs.Runs.{more}
+use Rattle.std.proofs.Common.{◌∙◌, arith}
+use Rattle.reading.proofs.Runs.{more, open_more}
 use Rattle.reading.proofs.list.run_with.Goals as goal
 
 pub loop-step-preserved : goal.loop-step-preserved
 loop-step-preserved g c =
-    more _ _ _ _ _ _ c.step-item.result _ _ _ c.loop-step.auto.steps c.loop-step-test.true c.loop-step.invariant c.perform-held.ensures.call
-    c.perform-held.ensures.filled c.perform-held.ensures.made (g.I.Input.sound c.perform-held.new.input)
+    let s = c.loop-step in
+    let called = c.perform-held.ensures in
+    record {
+      upto =
+          more s.step-index c.args.steps.now s.steps c.perform-held.new.step c.step-item.result _ _ _ s.auto.steps c.loop-step-test.true s.invariant.upto called.call called.filled called.made
+          (g.I.Input.sound c.perform-held.new.input);
+      ticket = open_more s.step-index s.steps c.perform-held.new.step c.step-item.result _ _ (omega arith) called.ticket ∙ s.invariant.ticket;
+    }

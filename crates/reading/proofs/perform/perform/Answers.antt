@@ -2,7 +2,7 @@ use Rattle.std.proofs.Common.{sym, ap, ◌∙◌}
 use Rattle.std.proofs.lemmas.List.{with_items_is, nil_from_length}
 use Rattle.reading.specs.declared.call.Step.{Step}
 use Rattle.reading.specs.Line.{room_bytes}
-use Rattle.reading.proofs.Made.{made}
+use Rattle.reading.proofs.Performing.{performed}
 use Rattle.reading.proofs.perform.perform.Goals as goal
 use Rattle.reading.proofs.perform.perform.Goals.{in-Some, in-None}
 
@@ -15,10 +15,10 @@ returns-clause-made g c =
     elim c.match-step.branch [
       | in-Some w ↦
           let left = with_items_is w.in-Some.room w.answer_to.new.room (w.answer_to.auto.room ∙ w.deref_mut.ensures.len) in
-          made _ _ _ step after _ _ _ _ _ _ (i.faithful before) w.answer_to.ensures (w.deref_mut.ensures.value ∙ sym (ap room_bytes w.in-Some.is))
+          performed _ step after _ _ _ _ _ _ (i.faithful before) w.answer_to.ensures.means (w.deref_mut.ensures.value ∙ sym (ap room_bytes w.in-Some.is))
           (sym (ap (λ (s : Step). room_bytes s.room) w.step-is ∙ left)) (sym (ap (λ x. x.0) w.answer-is)) (sym (ap i.view w.input-is))
       | in-None w ↦
           let empty = nil_from_length w.answer_to-in-None.new.room w.answer_to-in-None.auto.room in
-          made _ _ _ step after _ _ _ _ _ _ (i.faithful before) w.answer_to-in-None.ensures (sym (ap room_bytes w.in-None.is))
+          performed _ step after _ _ _ _ _ _ (i.faithful before) w.answer_to-in-None.ensures.means (sym (ap room_bytes w.in-None.is))
           (empty ∙ sym (ap (λ (s : Step). room_bytes s.room) w.step-is ∙ ap room_bytes w.in-None.is)) (sym (ap (λ x. x.0) w.answer-is)) (sym (ap i.view w.input-is))
     ]

@@ -14,7 +14,7 @@ overflow_add-result g c =
     let s = c.skip_blanks-blanks.ensures.skips.skims.number in
     let a = run_short (goes (separates c.args.skip_tabs) Free) (view c.args.input.now).ahead in
     let b = ahead_short (view c.args.input.now) (g.I.Input.sound c.args.input.now) in
-    let k = (skims_whole _ (goes not_breakz Free) _ _ (g.I.Input.sound u) _ c.skip_run-comment.ensures).number in
+    let k = (skims_whole (goes not_breakz Free) _ _ (g.I.Input.sound u) _ c.skip_run-comment.ensures).number in
     let d = run_short (goes not_breakz Free) (view u).ahead in
     let e = ahead_short (view u) (g.I.Input.sound u) in
     omega arith
@@ -22,6 +22,6 @@ overflow_add-result g c =
 pub returns : goal.returns
 returns g c =
     let u = c.skip_blanks-blanks.new.input in
-    let shown = c.peek_nth.ensures ∙ g.I.Input.faithful u 0 c.skip_blanks-blanks.ensures.looked in
-    comment_after _ _ _ _ _ _ c.skip_blanks-blanks.ensures.skips (eq-eqb _ 35 (sym shown ∙ c.if-peek_nth-ne35.false)) c.if-blanks-eq0.false _ _
-    (skims_whole _ (goes not_breakz Free) _ _ (g.I.Input.sound u) _ c.skip_run-comment.ensures)
+    let shown = c.peek_nth.ensures ∙ (g.I.Input.faithful u).at 0 c.skip_blanks-blanks.ensures.looked in
+    comment_after _ _ _ _ _ c.skip_blanks-blanks.ensures.skips (eq-eqb _ 35 (sym shown ∙ c.if-peek_nth-ne35.false)) c.if-blanks-eq0.false _ _
+    (skims_whole (goes not_breakz Free) _ _ (g.I.Input.sound u) _ c.skip_run-comment.ensures)

@@ -4,5 +4,5 @@ use Rattle.runs.specs.Runs.{goes}
 use Rattle.runs.proofs.Asking.{fetches_whole}
 use Rattle.runs.proofs.calls.fetch_line.Goals as goal
 
-pub returns : goal.returns
-returns g c = fetches_whole _ (goes not_breakz Free) _ _ (g.I.Input.sound c.args.input.now) _ _ _ _ c.fetch_run.ensures
+pub returns-clause-fetches : goal.returns-clause-fetches
+returns-clause-fetches g c = fetches_whole (goes not_breakz Free) _ _ (g.I.Input.sound c.args.input.now) _ _ _ _ c.fetch_run.ensures

@@ -5,8 +5,10 @@ use Rattle.runs.proofs.plain.skip_chunk.Goals as goal
 pub returns : goal.returns
 returns g c =
     let some : 0 < c.args.count = (let n = c.if-count-eq0.false in omega arith) in
-    let skim = sighted_skip _ _ c.args.in_flow c.args.count _ _ _ _ _ c.colon_in-colon.ensures c.skip_safe-taken.ensures in
+    let sound = g.I.Input.sound c.args.input.now in
+    let looks = c.lookahead.ensures.looks in
+    let skim = sighted_skip _ c.args.in_flow c.args.count _ _ _ _ _ c.colon_in-colon.ensures c.skip_safe-taken.ensures in
     record {
-      chunk = skips_chunk _ c.args.in_flow _ c.args.count _ _ _ g.I.Input.wide some c.lookahead.ensures c.skip_safe-taken.result skim _ refl;
-      steps = steps_chunk _ c.args.in_flow _ c.args.count _ _ _ g.I.Input.wide some c.lookahead.ensures c.skip_safe-taken.result skim _ refl refl;
+      chunk = skips_chunk c.args.in_flow c.args.count _ _ _ sound some looks c.skip_safe-taken.result skim _ refl;
+      steps = steps_chunk c.args.in_flow c.args.count _ _ _ sound some looks c.skip_safe-taken.result skim _ refl refl;
     }

@@ -5,16 +5,16 @@ use Rattle.runs.proofs.steps.fetch_run.Goals as goal
 
 pub returns-in_default : goal.returns-in_default
 returns-in_default g c =
-    answered _ _ _ _ _ _ _ _ _ _ _ _ c.new.ensures
-    (fetch_ended _ _ _ _ _ _ _ _ _ _ _ _ c.loop-count.invariant c.next_of_run.ensures c.requires.1 (sym c.in_default.is) (omega arith))
+    answered _ _ _ _ _ _ _ _ _ _ _ c.new.ensures
+    (fetch_ended _ _ _ _ _ _ _ _ _ _ _ c.loop-count.invariant c.next_of_run.ensures c.requires.1 (sym c.in_default.is) (omega arith))
 
 pub returns-in-Err : goal.returns-in-Err
 returns-in-Err g c =
-    answered _ _ _ _ _ _ _ _ _ _ _ _ c.new-in-Err.ensures
-    (fetch_full _ _ _ _ _ _ _ _ _ _ _ _ c.loop-count.invariant c.next_of_run.ensures c.requires.1 c.in-Some.c (sym c.in-Some.is) (omega arith) c.in-Err.refusal _
+    answered _ _ _ _ _ _ _ _ _ _ _ c.new-in-Err.ensures
+    (fetch_full _ _ _ _ _ _ _ _ _ _ _ c.loop-count.invariant c.next_of_run.ensures c.requires.1 c.in-Some.c (sym c.in-Some.is) (omega arith) c.in-Err.refusal _
     (full _ _ _ _ _ c.loop-count.invariant.inside c.in-Err.ensures))
 
 pub loop-count-preserved : goal.loop-count-preserved
 loop-count-preserved g c =
-    fetch_more _ _ _ _ _ _ _ _ _ _ _ _ c.loop-count.invariant c.next_of_run.ensures c.in-Some.c (sym c.in-Some.is) (omega arith) c.in-Ok.next _
+    fetch_more _ _ _ _ _ _ _ _ _ _ _ c.loop-count.invariant c.next_of_run.ensures c.in-Some.c (sym c.in-Some.is) (omega arith) c.in-Ok.next _
     (appended _ _ _ _ _ c.loop-count.invariant.inside c.in-Ok.ensures) _ c.skip.ensures

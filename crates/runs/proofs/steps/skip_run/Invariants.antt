@@ -4,4 +4,4 @@ use Rattle.runs.proofs.steps.skip_run.Given as goal
 
 abbrev pub invariant-loop-taken : goal.invariant-loop-taken
 invariant-loop-taken g l =
-    Running g.I.Input.prompt (goes g.C.Class.member l.colon) l.most l.taken (g.I.Input.view l.initial.input) (g.I.Input.view l.input)
+    Running (goes (g.C.Class.member l.class) l.colon) l.most l.taken (g.I.Input.view l.initial.input) (g.I.Input.view l.input)

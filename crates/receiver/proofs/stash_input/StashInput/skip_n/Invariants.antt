@@ -1,9 +1,14 @@
+use Rattle.std.proofs.Common.{◌-◌, ◌≤◌, length}
+use Rattle.input.specs.Calls.{Skips}
+use Rattle.receiver.specs.Drawn.{all_of}
 use Rattle.receiver.specs.Stash.{seen}
-use Rattle.std.proofs.Common.{false}
-use Rattle.input.proofs.Skipping.{Skipping}
 use Rattle.receiver.proofs.stash_input.StashInput.skip_n.Given as goal
 
-abbrev pub invariant-loop : goal.invariant-loop
-invariant-loop g l =
+abbrev pub invariant-loop-left : goal.invariant-loop-left
+invariant-loop-left g l =
     let view = seen g.S.FallibleSource.ahead g.S.FallibleSource.ending in
-    Skipping false l.counter (view l.initial.self) (view l.self)
+    record { left : l.left ≤ l.count; skips : Skips (l.count - l.left) (view l.initial.self) (view l.self) }
+
+-- a count may be far more than what is ahead
+abbrev pub decreases-loop-left : goal.decreases-loop-left
+decreases-loop-left g l = length (all_of g.S.FallibleSource.ahead l.self.drawn)
