@@ -37,7 +37,9 @@ impl Desk {
 
     /// Answers a command that asks nothing of an input. With one that does, there is none.
     pub fn aside(&mut self, command: Command) -> Result<(), AllocError>
-        ensures line { OnOk result ((line : List ℕ) × (string_bytes self.new.out ≡ string_bytes self.old.out ++ line) × AsideLine command self.old.rooms line) }
+        ensures line { OnOk result ((line : List ℕ)
+            × (string_bytes self.new.out ≡ string_bytes self.old.out ++ line)
+            × AsideLine command self.old.rooms line) }
         ensures rooms { OnOk result (AsideRooms command self.old.rooms self.new.rooms) }
     {
         match command {

@@ -29,9 +29,13 @@ pub fn receive_beside<I: Input>(
     ensures two { SameCalls two.old two.new }
     ensures held { is_some result.0 ≡ open_after one.old (is_some held) }
     ensures beside { is_some result.1 ≡ open_after two.old (is_some beside) }
-    ensures same { Same (log_of one.old one.new) (log_of two.old two.new) (seen packets_ahead packets_ending receiver.old) (I.Input.view other.old) }
-    ensures receiver { Account (log_of one.old one.new) (seen packets_ahead packets_ending receiver.old) (seen packets_ahead packets_ending receiver.new) }
-    ensures other { Account (log_of two.old two.new) (I.Input.view other.old) (I.Input.view other.new) }
+    ensures same { Same (log_of one.old one.new) (log_of two.old two.new)
+        (seen packets_ahead packets_ending receiver.old) (I.Input.view other.old) }
+    ensures receiver { Account (log_of one.old one.new)
+        (seen packets_ahead packets_ending receiver.old)
+        (seen packets_ahead packets_ending receiver.new) }
+    ensures other { Account (log_of two.old two.new) (I.Input.view other.old)
+        (I.Input.view other.new) }
 {
     side_by_side_with::<Stash<Packets<'_>>, I, Own, ByCharacter>(
         receiver, other, one, two, held, beside,

@@ -79,21 +79,24 @@ impl StrInput<'_> {
 
 impl Scan for StrInput<'_> {
     fn skip_while_blank(&mut self) -> usize
-        ensures skims { Skims true (scan_look text_manner) (run_of blank (text_view self.old).ahead) result (text_view self.old) (text_view self.new) }
+        ensures skims { Skims true (scan_look text_manner) (run_of blank (text_view self.old).ahead)
+            result (text_view self.old) (text_view self.new) }
         ensures takes { Takes result self.old self.new }
     {
         self.skip_run(&Blank, Colon::Free)
     }
 
     fn skip_while_non_breakz(&mut self) -> usize
-        ensures skims { Skims true (scan_look text_manner) (run_of printable_not_breakz (text_view self.old).ahead) result (text_view self.old) (text_view self.new) }
+        ensures skims { Skims true (scan_look text_manner)
+            (run_of printable_not_breakz (text_view self.old).ahead) result (text_view self.old) (text_view self.new) }
         ensures takes { Takes result self.old self.new }
     {
         self.skip_run(&PrintableNotBreakz, Colon::Free)
     }
 
     fn fetch_while_is_alpha(&mut self, room: &mut [u8], filled: usize) -> Fetched
-        ensures fetches { Fetches true (scan_look text_manner) (run_of alpha (text_view self.old).ahead) room.old filled result room.new (text_view self.old) (text_view self.new) }
+        ensures fetches { Fetches true (scan_look text_manner) (run_of alpha (text_view self.old).ahead)
+            room.old filled result room.new (text_view self.old) (text_view self.new) }
         ensures takes { Takes result.count self.old self.new }
         ensures unmoved { beyond room.old filled ≡ true → self.new ≡ self.old }
     {
@@ -101,7 +104,9 @@ impl Scan for StrInput<'_> {
     }
 
     fn fetch_while_is_yaml_non_space(&mut self, room: &mut [u8], filled: usize) -> Fetched
-        ensures fetches { Fetches true (scan_look text_manner) (run_of yaml_non_space (text_view self.old).ahead) room.old filled result room.new (text_view self.old) (text_view self.new) }
+        ensures fetches { Fetches true (scan_look text_manner)
+            (run_of yaml_non_space (text_view self.old).ahead)
+            room.old filled result room.new (text_view self.old) (text_view self.new) }
         ensures takes { Takes result.count self.old self.new }
         ensures unmoved { beyond room.old filled ≡ true → self.new ≡ self.old }
     {
@@ -109,7 +114,8 @@ impl Scan for StrInput<'_> {
     }
 
     fn fetch_block_scalar_line(&mut self, room: &mut [u8], filled: usize) -> Fetched
-        ensures fetches { Fetches true (exactly 0) (run_of not_breakz (text_view self.old).ahead) room.old filled result room.new (text_view self.old) (text_view self.new) }
+        ensures fetches { Fetches true (exactly 0) (run_of not_breakz (text_view self.old).ahead)
+            room.old filled result room.new (text_view self.old) (text_view self.new) }
         ensures takes { Takes result.count self.old self.new }
         ensures unmoved { beyond room.old filled ≡ true → self.new ≡ self.old }
     {
@@ -170,7 +176,8 @@ impl Scan for StrInput<'_> {
     }
 
     fn fetch_plain_run(&mut self, room: &mut [u8], filled: usize, in_flow: bool) -> Fetched
-        ensures fetches { Fetches true (exactly 2) (plain_run in_flow (text_view self.old).ahead) room.old filled result room.new (text_view self.old) (text_view self.new) }
+        ensures fetches { Fetches true (exactly 2) (plain_run in_flow (text_view self.old).ahead)
+            room.old filled result room.new (text_view self.old) (text_view self.new) }
         ensures takes { TakesWide (if beyond room.old filled then 0 else 2) result.count self.old self.new }
         ensures unmoved { beyond room.old filled ≡ true → self.new ≡ self.old }
     {
@@ -181,7 +188,8 @@ impl Scan for StrInput<'_> {
     }
 
     fn skip_plain_run(&mut self, in_flow: bool) -> usize
-        ensures skims { Skims true (exactly 2) (plain_run in_flow (text_view self.old).ahead) result (text_view self.old) (text_view self.new) }
+        ensures skims { Skims true (exactly 2) (plain_run in_flow (text_view self.old).ahead)
+            result (text_view self.old) (text_view self.new) }
         ensures takes { TakesWide 2 result self.old self.new }
     {
         self.lookahead(2);
