@@ -3,7 +3,7 @@
 
 pub mod loops;
 
-use crate::loops::{Seen, run};
+use crate::loops::{Seen, run, run_in_flow};
 use buffered::buffered::BufferedInput;
 use buffered::fallible::FallibleBufferedInput;
 use source::bytes::ByteChars;
@@ -12,30 +12,65 @@ use str_input::text::StrInput;
 
 /// A loop over a text as one slice. The text is checked first; one that is refused is not read.
 #[unsafe(no_mangle)]
-pub extern "C" fn bench_slice(task: u32, text: &[u8], room: &mut [u8]) -> Seen {
+pub extern "C" fn bench_slice(task: u32, text: &[u8], count: usize, room: &mut [u8]) -> Seen {
     let mut input = StrInput::new();
     match input.load(text) {
-        Ok(()) => run(task, &mut input, room),
+        Ok(()) => run(task, &mut input, count, room),
         Err(_) => Seen::new(),
     }
 }
 
 /// A loop over a ring over the characters of a text, which is checked first.
 #[unsafe(no_mangle)]
-pub extern "C" fn bench_ring(task: u32, text: &[u8], room: &mut [u8]) -> Seen {
+pub extern "C" fn bench_ring(task: u32, text: &[u8], count: usize, room: &mut [u8]) -> Seen {
     let mut source = TextChars::new();
     match source.load(text) {
-        Ok(()) => run(task, &mut BufferedInput::new(source), room),
+        Ok(()) => run(task, &mut BufferedInput::new(source), count, room),
         Err(_) => Seen::new(),
     }
 }
 
-/// A loop over a ring over the characters of any bytes, which are checked as they are read.
+/// A loop over a ring over the characters of any bytes, of which the well-formed front is found first.
 #[unsafe(no_mangle)]
-pub extern "C" fn bench_failing_ring(task: u32, bytes: &[u8], room: &mut [u8]) -> Seen {
+pub extern "C" fn bench_failing_ring(
+    task: u32,
+    bytes: &[u8],
+    count: usize,
+    room: &mut [u8],
+) -> Seen {
     let mut source = ByteChars::new();
     match source.load(bytes) {
-        Ok(()) => run(task, &mut FallibleBufferedInput::new(source), room),
+        Ok(()) => run(task, &mut FallibleBufferedInput::new(source), count, room),
+        Err(_) => Seen::new(),
+    }
+}
+
+/// By tokens in flow, over a text as one slice.
+#[unsafe(no_mangle)]
+pub extern "C" fn bench_slice_in_flow(text: &[u8], room: &mut [u8]) -> Seen {
+    let mut input = StrInput::new();
+    match input.load(text) {
+        Ok(()) => run_in_flow(&mut input, room),
+        Err(_) => Seen::new(),
+    }
+}
+
+/// The same by a ring over the characters of a text.
+#[unsafe(no_mangle)]
+pub extern "C" fn bench_ring_in_flow(text: &[u8], room: &mut [u8]) -> Seen {
+    let mut source = TextChars::new();
+    match source.load(text) {
+        Ok(()) => run_in_flow(&mut BufferedInput::new(source), room),
+        Err(_) => Seen::new(),
+    }
+}
+
+/// The same by a ring over the characters of any bytes.
+#[unsafe(no_mangle)]
+pub extern "C" fn bench_failing_ring_in_flow(bytes: &[u8], room: &mut [u8]) -> Seen {
+    let mut source = ByteChars::new();
+    match source.load(bytes) {
+        Ok(()) => run_in_flow(&mut FallibleBufferedInput::new(source), room),
         Err(_) => Seen::new(),
     }
 }

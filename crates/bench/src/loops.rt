@@ -62,12 +62,33 @@ fn fetch_lines<I: Scan>(input: &mut I, room: &mut [u8]) -> Seen {
     seen
 }
 
+/// In flow or not, told by a type, so that each has a loop of its own.
+trait Context {
+    fn in_flow() -> bool;
+}
+
+struct Flow;
+
+impl Context for Flow {
+    fn in_flow() -> bool {
+        true
+    }
+}
+
+struct Block;
+
+impl Context for Block {
+    fn in_flow() -> bool {
+        false
+    }
+}
+
 /// Fetches a plain run, chunk by chunk, and tells how many characters it had.
-fn fetch_token<I: Scan>(input: &mut I, room: &mut [u8], most: usize) -> usize {
+fn fetch_token<I: Scan, C: Context>(input: &mut I, room: &mut [u8], most: usize) -> usize {
     let mut count: usize = 0;
     let mut filled = 0;
     for _ in 0..TURNS {
-        let (stopped, chunk) = input.fetch_plain_scalar_chunk(room, filled, most, false);
+        let (stopped, chunk) = input.fetch_plain_scalar_chunk(room, filled, most, C::in_flow());
         count = count.wrapping_add(chunk.count);
         filled = chunk.filled;
         if stopped {
@@ -78,14 +99,14 @@ fn fetch_token<I: Scan>(input: &mut I, room: &mut [u8], most: usize) -> usize {
 }
 
 /// Skips blanks and comments, and fetches what stands between them.
-fn fetch_tokens<I: Scan>(input: &mut I, room: &mut [u8]) -> Seen {
+fn fetch_tokens<I: Scan, C: Context>(input: &mut I, room: &mut [u8]) -> Seen {
     let mut seen = Seen::new();
     let most = input.bufmaxlen() - 1;
     for _ in 0..TURNS {
         let (count, skipped) = input.skip_ws_to_eol(SkipTabs::Yes);
         seen.add_part(count);
         if skipped.is_err() {
-            // a comment at the start of a line
+            // a comment with no blank before it
             let comment = input.fetch_block_scalar_line(room, 0);
             seen.add_part(comment.count);
         }
@@ -98,10 +119,10 @@ fn fetch_tokens<I: Scan>(input: &mut I, room: &mut [u8]) -> Seen {
             seen.add_part(1);
             continue;
         }
-        let count = fetch_token(input, room, most);
+        let count = fetch_token::<I, C>(input, room, most);
         seen.add_part(count);
         if count == 0 {
-            // the `:`
+            // the `:`, or in flow one of `,[]{}`
             input.skip();
             seen.add_part(1);
         }
@@ -109,28 +130,29 @@ fn fetch_tokens<I: Scan>(input: &mut I, room: &mut [u8]) -> Seen {
     seen
 }
 
-/// Reads character by character, with a window.
-fn read_chars<I: Scan>(input: &mut I, window: usize) -> Seen {
+/// Reads so many characters one by one, with a window.
+fn read_chars<I: Scan>(input: &mut I, window: usize, count: usize) -> Seen {
     let mut seen = Seen::new();
     input.lookahead(window);
-    for _ in 0..TURNS {
-        let c = input.raw_read_ch();
-        if c == '\0' && input.next_is_z() {
-            break;
-        }
-        seen.add_char(c);
+    for _ in 0..count {
+        seen.add_char(input.raw_read_ch());
     }
     seen
 }
 
-/// The loop of a number. Any other number reads nothing.
-pub(crate) fn run<I: Scan>(task: u32, input: &mut I, room: &mut [u8]) -> Seen {
+/// The loop of a number. What reads by a count reads so many characters, any other loop all. Any other number reads nothing.
+pub(crate) fn run<I: Scan>(task: u32, input: &mut I, count: usize, room: &mut [u8]) -> Seen {
     match task {
         1 => skip_lines(input),
         2 => fetch_lines(input, room),
-        3 => fetch_tokens(input, room),
-        4 => read_chars(input, 0),
-        5 => read_chars(input, 4),
+        3 => fetch_tokens::<I, Block>(input, room),
+        4 => read_chars(input, 0, count),
+        5 => read_chars(input, 4, count),
         _ => Seen::new(),
     }
+}
+
+/// The loop by tokens in flow. It is called by functions of its own, so that the other loops are compiled as without it.
+pub(crate) fn run_in_flow<I: Scan>(input: &mut I, room: &mut [u8]) -> Seen {
+    fetch_tokens::<I, Flow>(input, room)
 }

@@ -86,6 +86,7 @@ impl<S: Source> Input for BufferedInput<S> {
         PLACES
     }
 
+    #[inline(always)]
     fn raw_read_ch(&mut self) -> char
         ensures reads { Reads result (seen S.ahead self.old) (seen S.ahead self.new) }
         ensures feeds { Feeds S.kept S.ended self.old.store self.new.store }
@@ -109,6 +110,7 @@ impl<S: Source> Input for BufferedInput<S> {
         }
     }
 
+    #[inline(always)]
     fn skip(&mut self)
         ensures skips { Skips 1 (seen S.ahead self.old) (seen S.ahead self.new) }
         ensures feeds { Feeds S.kept S.ended self.old.store self.new.store }
@@ -132,6 +134,7 @@ impl<S: Source> Input for BufferedInput<S> {
         }
     }
 
+    #[inline(always)]
     fn next_ch(&mut self) -> Option<char>
         ensures tells { Tells result (seen S.ahead self.old) (seen S.ahead self.new) }
         ensures feeds { Feeds S.kept S.ended self.old.store self.new.store }

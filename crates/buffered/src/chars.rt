@@ -1,6 +1,7 @@
 //! A clean source made of a failing one.
 
-ghost use Rattle.std.specs.Prelude.{◌≡◌};
+ghost use Rattle.std.specs.Prelude.{◌≡◌, Some};
+ghost use Rattle.source.specs.Met.{finishing};
 ghost use Rattle.buffered.specs.Chars.{fault_in};
 
 use error::{Ending, Fault};
@@ -13,6 +14,16 @@ pub(crate) struct FallibleChars<F> {
 }
 
 impl<F> FallibleChars<F> {
+    /// Keeps the ending that was told first.
+    pub(crate) fn keep(&mut self, ending: Ending)
+        ensures below { self.new.below ≡ self.old.below }
+        ensures ended { self.new.ended ≡ Some (finishing self.old.ended ending) }
+    {
+        if self.ended.is_none() {
+            self.ended = Some(ending);
+        }
+    }
+
     /// The fault with which it ended, if it did.
     pub(crate) fn fault(&self) -> Option<Fault>
         ensures { result ≡ fault_in self.now.ended }

@@ -18,21 +18,19 @@ impl<F: FallibleSource> Source for FallibleChars<F> {
 
     ghost short = { chars_short F.ahead F.short };
 
-    // it rests once it has ended: the source below is not stepped again
+    // The store steps it no more once its end was met, so that no test is made before each step.
+    #[inline(always)]
     fn step(&mut self) -> Option<char>
         ensures gives { Gives result (chars_ahead F.ahead self.old) (chars_ahead F.ahead self.new) }
         ensures keeps { kept_by F.ending self.new ≡ kept_by F.ending self.old }
         ensures ends { result ≡ None → is_some self.new.ended ≡ true }
-        ensures rests { is_some self.old.ended ≡ true → self.new ≡ self.old }
     {
-        if self.ended.is_some() {
-            return None;
-        }
-        match self.below.step() {
+        let ending = match self.below.step() {
             Ok(Some(c)) => return Some(c),
-            Ok(None) => self.ended = Some(Ok(())),
-            Err(fault) => self.ended = Some(Err(fault)),
-        }
+            Ok(None) => Ok(()),
+            Err(fault) => Err(fault),
+        };
+        self.keep(ending);
         None
     }
 }

@@ -73,6 +73,7 @@ impl<F: FallibleSource> Input for FallibleBufferedInput<F> {
         self.inner.bufmaxlen()
     }
 
+    #[inline(always)]
     fn raw_read_ch(&mut self) -> char
         ensures reads { Reads result
             (seen_failing F.ahead F.ending self.old)
@@ -95,6 +96,7 @@ impl<F: FallibleSource> Input for FallibleBufferedInput<F> {
         self.inner.raw_read_non_breakz_ch()
     }
 
+    #[inline(always)]
     fn skip(&mut self)
         ensures skips { Skips 1
             (seen_failing F.ahead F.ending self.old)
@@ -113,6 +115,7 @@ impl<F: FallibleSource> Input for FallibleBufferedInput<F> {
         self.inner.skip_n(count);
     }
 
+    #[inline(always)]
     fn next_ch(&mut self) -> Option<char>
         ensures tells { Tells result
             (seen_failing F.ahead F.ending self.old)

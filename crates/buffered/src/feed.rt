@@ -8,12 +8,13 @@ use source::Source;
 
 impl<S: Source> Store<S> {
     /// Draws until so many are held or the source has ended.
+    #[inline(always)]
     pub(crate) fn fill(&mut self, upto: usize)
         requires { upto ≤ 16 }
         ensures fills { Fills S.ahead upto self.old self.new }
         ensures feeds { Feeds S.kept S.ended self.old self.new }
     {
-        while !self.met && self.ring.len < upto {
+        while self.ring.len < upto && !self.met {
             match self.source.step() {
                 Some(c) => self.ring.push(c),
                 None => self.met = true,

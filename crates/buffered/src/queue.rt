@@ -20,6 +20,7 @@ impl Ring {
     }
 
     /// The first character, if one is held.
+    #[inline(always)]
     pub(crate) fn first(&self) -> Option<char>
         ensures { result ≡ first_of (queue self.now) }
     {
@@ -30,6 +31,7 @@ impl Ring {
         }
     }
 
+    #[inline(always)]
     pub(crate) fn push(&mut self, c: char)
         requires { self.old.len < 16 }
         ensures holds { queue self.new ≡ queue self.old ++ (c ∷ []) }
@@ -41,6 +43,7 @@ impl Ring {
     }
 
     /// Takes the first character, if one is held.
+    #[inline(always)]
     pub(crate) fn pop(&mut self) -> Option<char>
         ensures { Pops result (queue self.old) (queue self.new) }
     {

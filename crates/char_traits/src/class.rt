@@ -1,8 +1,10 @@
 //! Sets of characters that a scan can run over.
 
-ghost use Rattle.std.specs.Prelude.{◌≡◌, ℕ, Bool, true, false, refl};
+ghost use Rattle.std.specs.Prelude.{◌≡◌, ℕ, Bool, true, false, refl, IfSome, Some};
 ghost use Rattle.char_traits.specs.Chars.{blank, alpha, yaml_non_space, not_breakz, printable_not_breakz, plain_safe};
+ghost use Rattle.char_traits.specs.Known.{Knows, printable_from, all_from, without_flow};
 
+use crate::known::Known;
 use crate::{
     is_alpha, is_blank, is_blank_or_breakz, is_breakz, is_flow, is_printable, is_yaml_non_space,
 };
@@ -15,6 +17,13 @@ pub trait Class {
         ensures { result ≡ member self.now c };
 
     ghost without_nul: { (class : Self) → member class 0 ≡ false };
+
+    /// Characters that are known to be in it, so that a scan need not ask for each; none where nothing is said.
+    fn known(&self) -> Option<Known>
+        ensures { IfSome result (Knows (member self.now)) }
+    {
+        None
+    }
 }
 
 /// Space and tab.
@@ -57,6 +66,13 @@ impl Class for YamlNonSpace {
     fn has(&self, c: char) -> bool {
         is_yaml_non_space(c)
     }
+
+    fn known(&self) -> Option<Known>
+        ensures knows { IfSome result (Knows yaml_non_space) }
+        ensures says { result ≡ Some (printable_from 0x21) }
+    {
+        Some(Known::printable_from(b'!'))
+    }
 }
 
 /// All characters but breaks and NUL.
@@ -70,6 +86,13 @@ impl Class for NotBreakz {
 
     fn has(&self, c: char) -> bool {
         !is_breakz(c)
+    }
+
+    fn known(&self) -> Option<Known>
+        ensures knows { IfSome result (Knows not_breakz) }
+        ensures says { result ≡ Some (all_from 0x20) }
+    {
+        Some(Known::all_from(b' '))
     }
 }
 
@@ -85,6 +108,13 @@ impl Class for PrintableNotBreakz {
     fn has(&self, c: char) -> bool {
         is_printable(c) && !is_breakz(c)
     }
+
+    fn known(&self) -> Option<Known>
+        ensures knows { IfSome result (Knows printable_not_breakz) }
+        ensures says { result ≡ Some (printable_from 0x20) }
+    {
+        Some(Known::printable_from(b' '))
+    }
 }
 
 /// Characters of a plain scalar outside flow: no blank, no break and no NUL.
@@ -99,6 +129,13 @@ impl Class for PlainSafe {
     fn has(&self, c: char) -> bool {
         !is_blank_or_breakz(c)
     }
+
+    fn known(&self) -> Option<Known>
+        ensures knows { IfSome result (Knows (plain_safe false)) }
+        ensures says { result ≡ Some (all_from 0x21) }
+    {
+        Some(Known::all_from(b'!'))
+    }
 }
 
 /// Characters of a plain scalar in flow: those outside flow but the flow characters.
@@ -112,5 +149,12 @@ impl Class for PlainSafeInFlow {
 
     fn has(&self, c: char) -> bool {
         !is_blank_or_breakz(c) && !is_flow(c)
+    }
+
+    fn known(&self) -> Option<Known>
+        ensures knows { IfSome result (Knows (plain_safe true)) }
+        ensures says { result ≡ Some (without_flow (all_from 0x21)) }
+    {
+        Some(Known::all_from(b'!').but_flow())
     }
 }

@@ -6,6 +6,7 @@ ghost use Rattle.char_traits.specs.Chars.{z, line_break, breakz, blank, blank_or
 ghost use Rattle.char_traits.specs.Ties.{Ties};
 
 pub mod class;
+pub mod known;
 
 /// NUL.
 pub fn is_z(c: char) -> bool

@@ -1,5 +1,5 @@
 -- What a step of a source that may fail gives, by cases of its answer. Assumes nothing.
-use Rattle.std.proofs.Common.{◌≡◌, ℕ, List, [], ◌∷◌, length, get_or, drop, Ok, Err, Some, None, sym, refl, ap, ◌∙◌, ap₂, arith}
+use Rattle.std.proofs.Common.{◌≡◌, ℕ, List, [], ◌∷◌, length, get_or, drop, Ok, Err, Some, None, sym, refl, ap, ap₂, arith}
 use Rattle.error.specs.Numbers.{Ending, clean, fault_number, kind_number}
 use Rattle.error.specs.declared.Fault.{Fault}
 use Rattle.error.specs.declared.FaultKind.{FaultKind}
@@ -38,13 +38,3 @@ stepped (Ok None) [] after (Err fault) e a = absurd (omega (arith, ap (λ (x : �
 stepped (Err fault) (c ∷ cs) after ending e a = absurd (omega (arith, ap (λ (x : ℕ × List ℕ). x.0) e))
 stepped (Err fault) [] after (Ok done) e a = absurd (omega (arith, ap (λ (x : ℕ × List ℕ). length x.1) e))
 stepped (Err fault) [] after (Err other) e a = (refl, a, ap Err (one_fault fault other (values fault other e)))
-
--- what such a step tells, and what is ahead after it
-pub record Tells (r : Step) (before after : List ℕ) (ending : Ending) : Type 0 where
-  pub tells : told r ≡ step_of before ending
-  pub drops : after ≡ drop 1 before
-
-pub steps_tell : (r : Step) (before after : List ℕ) (ending : Ending) → Steps r before after ending → Tells r before after ending
-steps_tell (Ok (Some c)) before after ending b = record { tells = ap (λ xs. step_of xs ending) (sym b); drops = ap (drop 1) (sym b) }
-steps_tell (Ok None) before after ending (b, a, e) = record { tells = ap₂ step_of (sym b) e; drops = a ∙ ap (drop 1) (sym b) }
-steps_tell (Err fault) before after ending (b, a, e) = record { tells = ap₂ step_of (sym b) e; drops = a ∙ ap (drop 1) (sym b) }

@@ -28,6 +28,7 @@ impl StrInput<'_> {
         count
     }
 
+    #[inline(always)]
     fn fetch_run<C: Class>(
         &mut self,
         class: &C,
@@ -58,6 +59,7 @@ impl StrInput<'_> {
         }
     }
 
+    #[inline(always)]
     fn fetch_plain(&mut self, in_flow: bool, room: &mut [u8], filled: usize) -> Fetched
         ensures appends { AppendsRun (plain_run in_flow (ahead_of self.old)) room.old filled result room.new }
         ensures takes { Takes result.count self.old self.new }
@@ -73,7 +75,7 @@ impl StrInput<'_> {
     fn is_at_hash(&self) -> bool
         ensures { result ≡ at_hash (ahead_of self.now) }
     {
-        self.at.nth(0) == '#'
+        self.at.is_at_hash()
     }
 }
 
@@ -122,6 +124,7 @@ impl Scan for StrInput<'_> {
         self.fetch_run(&NotBreakz, Colon::Free, room, filled)
     }
 
+    #[inline(always)]
     fn skip_ws_to_eol(&mut self, skip_tabs: SkipTabs) -> (usize, Result<WhitespaceResult, Refusal>)
         ensures skips { SkipsToEol skip_tabs result (text_view self.old) (text_view self.new) }
         ensures takes { Takes result.0 self.old self.new }
@@ -137,6 +140,7 @@ impl Scan for StrInput<'_> {
         (blanks + comment, Ok(seen))
     }
 
+    #[inline(always)]
     fn skip_ws_to_eol_blanks(&mut self, skip_tabs: SkipTabs) -> (usize, WhitespaceResult)
         ensures skips { SkipsBlanks skip_tabs result (text_view self.old) (text_view self.new) }
         ensures takes { Takes result.0 self.old self.new }
@@ -149,6 +153,7 @@ impl Scan for StrInput<'_> {
 
     /// The whole plain run, whatever the count.
     #[tactic(auto, using(crate::proofs::Scanning::fetches_chunk))]
+    #[inline(always)]
     fn fetch_plain_scalar_chunk(
         &mut self,
         room: &mut [u8],

@@ -1,16 +1,18 @@
 -- Blanks, byte by byte. Assumes nothing.
-use Rattle.std.proofs.Common.{◌≡◌, ℕ, ◌+◌, ◌-◌, ◌<◌, ◌≤◌, Bool, true, false, ◌||◌, List, [], ◌∷◌, ◌++◌, length, get_or, sym, refl, ap, ◌∙◌, subst, ap₂, arith}
+use Rattle.std.proofs.Common.{◌≡◌, ℕ, zero, suc, ◌+◌, ◌-◌, ◌<◌, ◌≤◌, Bool, true, false, ◌||◌, eqb, List, [], ◌∷◌, ◌++◌, length, get_or, sym, refl, ap, ◌∙◌, subst, ap₂, arith}
 use Rattle.std.proofs.lemmas.Bool.{cond-true, cond-false, eq-eqb, ne_eqb}
 use Rattle.std.proofs.lemmas.Bool.Decides.{nat_tests}
 use Rattle.input.specs.Tests.{flag}
-use Rattle.runs.specs.Runs.{goes, separates, blanks_of, has}
+use Rattle.runs.specs.Runs.{goes, separates, blanks_of, has, at_hash}
 use Rattle.runs.specs.Scans.{flags_of}
 use Rattle.runs.specs.declared.SkipTabs.{SkipTabs}
 use Rattle.runs.specs.declared.SkipTabs.TheVariants.{Yes, No}
 use Rattle.runs.specs.declared.Colon.TheVariants.{Free}
 use Rattle.text_bytes.specs.declared.cursor.Cursor.{Cursor}
 use Rattle.text_bytes.specs.Bytes.{Placed, ahead_at}
+use Rattle.text_bytes.specs.Cursors.{ahead_from}
 use Rattle.text_bytes.specs.Ends.{Ends}
+use Rattle.text_bytes.specs.Spans.{Spaces}
 use Rattle.text_bytes.proofs.Places.{StepsAt, moved, ahead_too, none_ahead, step_ascii, first_char}
 use Rattle.text_bytes.proofs.Running.{Running, running_none, running_more, running_stops, running_out, run_ends}
 
@@ -21,6 +23,10 @@ low No b e = grind (arith, nat_tests)
 space : (tabs : SkipTabs) (b : ℕ) → separates tabs b ≡ true → (b ≡ 9 → ⊥) → b ≡ 32
 space Yes b e n = grind (arith, nat_tests)
 space No b e n = grind (arith, nat_tests)
+
+a_space : (tabs : SkipTabs) → separates tabs 0x20 ≡ true
+a_space Yes = refl
+a_space No = refl
 
 -- a byte that separates is the character there
 same : (tabs : SkipTabs) (b c : ℕ) → (c < 128 → b ≡ c) → (b < 128 → c ≡ b) → separates tabs b ≡ separates tabs c
@@ -107,6 +113,20 @@ module _ (tabs : SkipTabs) (x : Cursor) where
           space = s.space ∙ ap (λ xs. spaces || has 0x20 xs) (more e) ∙ one 32 spaces (blanks_at (place + 1)) (space tabs (get_or x.text.now place 0) e is);
         }
 
+  -- spaces after a space: nothing more is found
+  blanking_spaces : (n place to : ℕ) (found : Bool) → to ≡ place + n → Blanking place found true → to ≤ length x.text.now
+      → ((k : ℕ) → place ≤ k → k < to → get_or x.text.now k 0 ≡ 0x20) → Blanking to found true
+  blanking_spaces zero place to found e s h each = subst (λ (k : ℕ). Blanking k found true) (omega arith) s
+  blanking_spaces (suc n) place to found e s h each =
+      let is = each place (omega arith) (omega arith) in
+      let one : separates tabs (get_or x.text.now place 0) ≡ true = ap (separates tabs) is ∙ a_space tabs in
+      blanking_spaces n (place + 1) to found (omega arith) (blanking_space place found true s (omega arith) one (λ t. omega arith)) h (λ k l m. each k (omega arith) m)
+
+  pub blanking_far : (place to : ℕ) (found : Bool) → Blanking (place + 1) found true → Spaces x.text.now (place + 1) to → Blanking to found true
+  blanking_far place to found s far =
+      let o = far.order in
+      blanking_spaces (to - (place + 1)) (place + 1) to found (omega arith) s far.inside far.each
+
   -- what is known where the blanks end
   pub record Blanked (y : Cursor) (found spaces : Bool) : Type 0 where
     pub ends : Ends x (blanks_at x.place) y (y.place - x.place)
@@ -137,3 +157,15 @@ module _ (tabs : SkipTabs) (x : Cursor) where
         (running_stops (goes (separates tabs) Free) (ahead x.place) (ahead y.place) (y.place - x.place) s.running f.c (ahead f.next)
         (separates tabs (get_or x.text.now y.place 0)) f.steps.first is e)
         (ap (blanks_of tabs) f.steps.first ∙ cond-false (separates tabs f.c) _ _ (sym is ∙ e))
+
+-- a comment, by its first byte
+pub hash_there : (x : Cursor) → x.place < length x.text.now → eqb (get_or x.text.now x.place 0) 0x23 ≡ at_hash (ahead_from x)
+hash_there x h =
+    let f = first_char x.text.now x.place x.placed h in
+    same_hash (get_or x.text.now x.place 0) f.c f.byte f.character ∙ sym (ap at_hash f.steps.first)
+  where
+    same_hash : (b c : ℕ) → (c < 128 → b ≡ c) → (b < 128 → c ≡ b) → eqb b 0x23 ≡ eqb c 0x23
+    same_hash b c f g = grind (arith, nat_tests)
+
+pub no_hash : (x : Cursor) → length x.text.now ≤ x.place → false ≡ at_hash (ahead_from x)
+no_hash x h = sym (ap at_hash (none_ahead x.text.now x.place h))

@@ -6,3 +6,6 @@ pub mod Markers
 pub mod Running
 pub mod Fitting
 pub mod Blanks
+pub mod Lanes
+pub mod Spanning
+pub mod Crossing

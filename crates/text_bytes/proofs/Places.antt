@@ -3,11 +3,10 @@ use Rattle.std.proofs.Common.{◌≡◌, ℕ, ◌+◌, ◌<◌, ◌≤◌, true,
 use lib.Utf8.{encode, encodes, scalar, scalars}
 use Rattle.std.proofs.lemmas.List.{drop_all, get_or-drop}
 use Rattle.std.proofs.lemmas.Bool.{and_parts, eq-eqb, ne_eqb, cases_lt}
-use Rattle.std.proofs.lemmas.Str.{IsUtf8-drop, chars-nil, chars_past_char, drop_past_char, IsCharBoundary-past_char, byte_from_char, char_from_byte, len_utf8_ascii, length-encode}
+use Rattle.std.proofs.lemmas.Str.{IsUtf8-drop, chars-nil, chars_past_char, drop_past_char, IsCharBoundary-past_char, byte_from_char, char_from_byte, len_utf8_ascii}
 use Rattle.std.specs.Char.{len_utf8}
 use Rattle.std.specs.Str.{IsCharBoundary, chars}
-use Rattle.utf8.specs.Decoding.{IsChar, IsIll}
-use Rattle.utf8.proofs.Leads.{opens, wide, never_ill}
+use Rattle.utf8.specs.Decoding.{BeginsWith}
 use Rattle.input.specs.Calls.{none_left}
 use Rattle.text_bytes.specs.declared.cursor.Cursor.{Cursor}
 use Rattle.text_bytes.specs.Bytes.{Placed, ahead_at}
@@ -46,11 +45,6 @@ pub opened : (bytes : List ℕ) → IsUtf8 bytes → 0 < length bytes → Front 
 opened bytes ([], (s, e)) h = absurd (omega (arith, ap length e))
 opened bytes (c ∷ cs, (s, e)) h = record { c = c; tail = encodes cs; character = (and_parts (scalar c) (scalars cs) s).0; is = sym e }
 
-pub never : (text : List ℕ) (at : ℕ) → Placed text at → IsIll (drop at text) → ⊥
-never text at p ill =
-    let o = opened (drop at text) (rest_is_text text at p) ill.some in
-    never_ill (drop at text) o.c o.tail o.character o.is ill
-
 pub step : (text tail : List ℕ) (at c : ℕ) → Placed text at → drop at text ≡ encode c ++ tail → StepsAt text at c (at + len_utf8 c)
 step text tail at c p e =
     let u = rest_is_text text at p in
@@ -59,10 +53,9 @@ step text tail at c p e =
       boundary = IsCharBoundary-past_char text tail at c p.boundary.0 u e;
     }
 
-pub step_char : (text : List ℕ) (at c w : ℕ) → Placed text at → IsChar (drop at text) c w → StepsAt text at c (at + w)
-step_char text at c w p is =
-    let e : len_utf8 c ≡ w = sym (length-encode c) ∙ wide (drop at text) c w is in
-    subst (λ (k : ℕ). StepsAt text at c (at + k)) e (step text (drop w (drop at text)) at c p (opens (drop at text) c w is))
+-- a character that begins the bytes from the place on
+pub step_first : (text : List ℕ) (at c w : ℕ) → Placed text at → BeginsWith (drop at text) c → w ≡ len_utf8 c → StepsAt text at c (at + w)
+step_first text at c w p e wide = subst (λ (k : ℕ). StepsAt text at c (at + k)) (sym wide) (step text e.0 at c p e.1)
 
 pub step_ascii : (text : List ℕ) (at b : ℕ) → Placed text at → at < length text → b ≡ get_or text at 0 → b < 128 → StepsAt text at b (at + 1)
 step_ascii text at b p h is low =

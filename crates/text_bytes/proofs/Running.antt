@@ -1,13 +1,14 @@
 -- A run, character by character in the bytes of a text. Assumes nothing.
 use Rattle.std.proofs.Common.{◌≡◌, ℕ, ◌+◌, ◌-◌, Bool, true, false, cond, List, [], ◌∷◌, ◌++◌, length, get_or, take, drop, sym, refl, ap, ◌∙◌, arith, length-append, length-drop, take-append-drop}
 use lib.Utf8.{encodes}
-use Rattle.std.proofs.lemmas.List.{take_at}
+use Rattle.std.proofs.lemmas.List.{take_at, drop-drop}
 use Rattle.std.proofs.lemmas.Str.{encodes-append, encodes-chars}
 use Rattle.runs.specs.Runs.{run_by}
 use Rattle.text_bytes.specs.declared.cursor.Cursor.{Cursor}
 use Rattle.text_bytes.specs.Bytes.{Placed, ahead_at}
 use Rattle.text_bytes.specs.Cursors.{ahead_from}
 use Rattle.text_bytes.specs.Ends.{Ends}
+use Rattle.text_bytes.specs.Spans.{Crosses}
 use Rattle.text_bytes.proofs.Places.{rest_is_text, placed_too, ahead_too}
 use Rattle.text_bytes.proofs.Runs.{one_more}
 
@@ -79,6 +80,20 @@ module _ (go : ℕ → ℕ → Bool) (all : List ℕ) where
 
     pub running_out : left ≡ [] → length (run_by go all) ≡ n
     running_out e = let none = ap (λ xs. length (run_by go xs)) e in omega (arith, none, r.run)
+
+-- so many characters of a run lie before a later place
+pub running_from : (go : ℕ → ℕ → Bool) (y z : Cursor) (n : ℕ) → Crosses go y z n → Running go (ahead_from y) (ahead_from z) n
+running_from go y z n c = record { ahead = c.ahead; run = c.run }
+
+-- and so many more lie after the next character
+pub running_on : (go : ℕ → ℕ → Bool) (all : List ℕ) (y z : Cursor) (n more : ℕ) → Running go all (ahead_from y) (n + 1) → Crosses go y z more
+    → Running go all (ahead_from z) (n + (1 + more))
+running_on go all y z n more r c =
+    let far : n + 1 + more ≡ n + (1 + more) = omega arith in
+    record {
+      ahead = c.ahead ∙ ap (drop more) r.ahead ∙ drop-drop more (n + 1) all ∙ ap (λ k. drop k all) far;
+      run = omega (arith, r.run, c.run);
+    }
 
 -- all of a run was taken
 pub run_ends : (go : ℕ → ℕ → Bool) (x y : Cursor) (n : ℕ) → y.text.now ≡ x.text.now → Running go (ahead_from x) (ahead_from y) n → length (run_by go (ahead_from x)) ≡ n

@@ -1,3 +1,4 @@
 pub mod Bytes
 pub mod Cursors
 pub mod Ends
+pub mod Spans

@@ -1,10 +1,11 @@
 //! Characters in the bytes of a text. An ASCII character is known by its byte alone.
 
-ghost use Rattle.std.specs.Prelude.{◌≡◌, ◌<◌, ◌≤◌, ◌&&◌, ◌||◌, [], length, Decides, ◌==◌, slice_index, IfOk, MatchOption};
+ghost use Rattle.std.specs.Prelude.{◌≡◌, ◌<◌, ◌≤◌, ◌&&◌, ◌||◌, [], length, drop, Decides, ◌==◌, slice_index, IfOk, MatchOption};
 ghost use Rattle.std.specs.Str.{IsCharBoundary};
 ghost use Rattle.char_traits.specs.Chars.{blank_or_breakz};
 ghost use Rattle.error.specs.Numbers.{outcome};
 ghost use Rattle.utf8.specs.Checking.{Checked};
+ghost use Rattle.utf8.specs.Decoding.{BeginsWith};
 ghost use Rattle.input.specs.Calls.{none_left};
 ghost use Rattle.input.specs.Tests.{thrice, marker_in};
 ghost use Rattle.text_bytes.specs.Bytes.{Placed, shows, begins, Thrice};
@@ -14,8 +15,8 @@ use crate::cursor::Cursor;
 use char_traits::is_blank_or_breakz;
 use error::Refusal;
 use input::Marker;
-use std::str::from_utf8;
-use utf8::decoder::{IllFormed, decode};
+use std::str::{from_utf8, from_utf8_unchecked};
+use utf8::decoder::first_char;
 use utf8::text::check_text;
 
 impl<'a> Cursor<'a> {
@@ -62,14 +63,9 @@ impl<'a> Cursor<'a> {
             let next = place + 1;
             return Some((char::from(byte), Cursor { text, place: next }));
         }
-        match decode(text, place) {
-            Ok(Some((c, width))) => {
-                let next = place + width;
-                Some((c, Cursor { text, place: next }))
-            }
-            Ok(None) => None,
-            Err(IllFormed) => None,
-        }
+        let c = wide_char(text, place)?;
+        let next = place + c.len_utf8();
+        Some((c, Cursor { text, place: next }))
     }
 
     /// The place so many characters on, or the end.
@@ -143,6 +139,16 @@ impl<'a> Cursor<'a> {
     {
         is_thrice(self.text, self.place, byte) && ends_marker(self.text, self.place + 3)
     }
+}
+
+/// The character at a place of a text. It is a call of its own, so that what is read of ASCII stays short.
+#[inline(never)]
+fn wide_char(text: &[u8], place: usize) -> Option<char>
+    requires { Placed text.now place }
+    ensures { MatchOption result (drop place text.now ≡ []) (BeginsWith (drop place text.now)) }
+{
+    // SAFETY: the text is well-formed, and the place is between two of its characters.
+    first_char(unsafe { from_utf8_unchecked(&text[place..]) })
 }
 
 /// Whether a byte stands three times from a place on.

@@ -1,13 +1,15 @@
 //! Where runs of characters end.
 
 ghost use Rattle.std.specs.Prelude.{◌≡◌, ◌-◌};
-ghost use Rattle.runs.specs.Runs.{goes, run_by, separates, blanks_of};
+ghost use Rattle.runs.specs.Runs.{goes, run_by, separates, blanks_of, at_hash};
 ghost use Rattle.runs.specs.Scans.{flags, flags_of};
 ghost use Rattle.text_bytes.specs.Bytes.{shows};
 ghost use Rattle.text_bytes.specs.Cursors.{ahead_from};
 ghost use Rattle.text_bytes.specs.Ends.{Ends};
+ghost use Rattle.text_bytes.specs.Spans.{Crosses};
 
 use crate::cursor::Cursor;
+use crate::spans::{known_end, spaces_end};
 use char_traits::class::Class;
 use runs::{Colon, SkipTabs, WhitespaceResult};
 
@@ -32,20 +34,41 @@ fn is_separator(byte: u8, tabs: SkipTabs) -> bool
 }
 
 impl<'a> Cursor<'a> {
+    /// The place up to which a run is known to go on, and how many characters lie before it.
+    fn past_known<C: Class>(&self, class: &C, colon: Colon) -> (Cursor<'a>, usize)
+        ensures { Crosses (goes (C.Class.member class.now) colon) self.now result.0 result.1 }
+    {
+        let Some(known) = class.known() else {
+            return (*self, 0);
+        };
+        let text = self.text;
+        let (place, count) = known_end(text, self.place, known, colon);
+        (Cursor { text, place }, count)
+    }
+
     /// Where the run from the place on ends, and how many characters it has.
+    #[inline(always)]
     pub fn run_end<C: Class>(&self, class: &C, colon: Colon) -> (Cursor<'a>, usize)
         ensures { Ends self.now (run_by (goes (C.Class.member class.now) colon) (ahead_from self.now)) result.0 result.1 }
     {
-        let mut end = *self;
-        let mut count = 0;
+        let (mut end, mut count) = self.past_known(class, colon);
+        // what is not known is asked, character by character
         while let Some((c, next)) = end.first() {
             if !goes_on(class, c, next, colon) {
                 break;
             }
-            end = next;
-            count += 1;
+            let (known, more) = next.past_known(class, colon);
+            end = known;
+            count += 1 + more;
         }
         (end, count)
+    }
+
+    /// Whether a comment begins there. No wide character has the byte of a `#`.
+    pub fn is_at_hash(&self) -> bool
+        ensures { result ≡ at_hash (ahead_from self.now) }
+    {
+        self.place < self.text.len() && self.text[self.place] == b'#'
     }
 
     /// Where the blanks from the place on end, and which kinds of them were there. Each is one byte.
@@ -57,14 +80,15 @@ impl<'a> Cursor<'a> {
         let mut place = self.place;
         let mut found_tabs = false;
         let mut has_valid_yaml_ws = false;
-        // one pass finds the end and both flags
+        // One pass finds the end and both flags; spaces that follow a space are seen together.
         while place < text.len() && is_separator(text[place], tabs) {
             if text[place] == b'\t' {
                 found_tabs = true;
+                place += 1;
             } else {
                 has_valid_yaml_ws = true;
+                place = spaces_end(text, place + 1);
             }
-            place += 1;
         }
         let seen = WhitespaceResult {
             found_tabs,

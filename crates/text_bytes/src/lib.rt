@@ -5,3 +5,4 @@ pub mod bytes;
 pub mod cursor;
 pub mod ends;
 pub mod parts;
+mod spans;

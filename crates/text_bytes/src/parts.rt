@@ -52,7 +52,10 @@ impl<'a> Cursor<'a> {
         ensures { room.new ≡ laid room.old filled (take (end.entry.place - self.now.place) (drop self.now.place self.now.text.now)) }
     {
         let part = &self.text[self.place..end.place];
-        room[filled..filled + part.len()].copy_from_slice(part);
+        // Many runs are empty, and a call that copies nothing costs as much as one that does.
+        if !part.is_empty() {
+            room[filled..filled + part.len()].copy_from_slice(part);
+        }
     }
 
     /// Appends as much of a run as fits.
@@ -84,6 +87,7 @@ impl<'a> Cursor<'a> {
     }
 
     /// Appends as much of the run from the place on as fits, and answers the place after it.
+    #[inline(always)]
     pub fn fetch_run<C: Class>(
         &self,
         class: &C,

@@ -1,8 +1,9 @@
 //! One character out of bytes.
 
-ghost use Rattle.std.specs.Prelude.{◌≡◌, ◌%◌, drop, MatchOption};
+ghost use Rattle.std.specs.Prelude.{◌≡◌, ◌<◌, ◌%◌, [], length, drop, MatchOption};
+ghost use Rattle.std.specs.Char.{len_utf8};
 ghost use Rattle.utf8.specs.Table.{row1, row2, row3, row4, NoRow, RowsHave};
-ghost use Rattle.utf8.specs.Decoding.{told, Leads, Decodes, Reads, Returns};
+ghost use Rattle.utf8.specs.Decoding.{told, BeginsWith, Leads, IsChar, IsIll, Decodes, Reads, Returns};
 
 /// No front of some bytes is a character.
 #[derive(Clone, Copy, Debug, PartialEq, Eq)]
@@ -83,19 +84,15 @@ pub fn width_of(first: u8) -> Option<usize>
     }
 }
 
+/// The character that some bytes begin with, if a front of them is one.
 #[inline(never)]
-fn front(rest: &[u8]) -> Result<Option<(char, usize)>, IllFormed>
-    ensures { Decodes rest.now (told result) }
+fn front(rest: &[u8]) -> Option<char>
+    requires { 0 < length rest.now }
+    ensures { MatchOption result (IsIll rest.now) (λ c. IsChar rest.now c (len_utf8 c)) }
 {
-    let [first, ..] = rest else {
-        return Ok(None);
-    };
-    match width_of(*first) {
-        Some(width) if width <= rest.len() => match character(&rest[..width]) {
-            Some(c) => Ok(Some((c, width))),
-            None => Err(IllFormed),
-        },
-        _ => Err(IllFormed),
+    match width_of(rest[0]) {
+        Some(width) if width <= rest.len() => character(&rest[..width]),
+        _ => None,
     }
 }
 
@@ -109,9 +106,21 @@ pub fn decode(text: &[u8], place: usize) -> Result<Option<(char, usize)>, IllFor
         return Ok(None);
     }
     let first = text[place];
-    match width_of(first) {
-        // Most characters are ASCII: these are told with no call, and no slice is cut.
-        Some(1) => Ok(Some((char::from(first), 1))),
-        _ => front(&text[place..]),
+    // Most characters are ASCII: these are told with no call, and no slice is cut.
+    if first < 0x80 {
+        return Ok(Some((char::from(first), 1)));
     }
+    // The call answers a character alone, which fits registers.
+    match front(&text[place..]) {
+        Some(c) => Ok(Some((c, c.len_utf8()))),
+        None => Err(IllFormed),
+    }
+}
+
+/// The character that a text begins with, if it has any. Its bytes were checked, so no test of them is made again.
+#[inline(never)]
+pub fn first_char(text: &str) -> Option<char>
+    ensures { MatchOption result (text.now ≡ []) (BeginsWith text.now) }
+{
+    text.chars().next()
 }

@@ -9,10 +9,10 @@ loop-self-preserved g c =
     let r = c.loop-self.self.ring in
     let lt : holding c.loop-self.self < c.args.upto = omega (arith, held_length r.places r.head r.len) in
     fill_end g.S.Source.ahead g.S.Source.kept g.S.Source.ended c.args.upto c.args.self.now c.loop-self.self c.step.new.self c.loop-self.invariant
-    c.loop-self-test.true lt c.in-None.ensures.gives.0 c.step.ensures.keeps (c.in-None.ensures.ends refl)
+    c.if-not-self.true lt c.in-None.ensures.gives.0 c.step.ensures.keeps (c.in-None.ensures.ends refl)
 
-pub returns-else-self-upto : goal.returns-else-self-upto
-returns-else-self-upto g c =
+pub returns-after-loop-self : goal.returns-after-loop-self
+returns-after-loop-self g c =
     let r = c.loop-self.self.ring in
     let le : c.args.upto ≤ holding c.loop-self.self = omega (arith, held_length r.places r.head r.len) in
     record {
@@ -26,4 +26,4 @@ loop-self-preserved-in-Some g c =
     let r = c.loop-self.self.ring in
     let lt : holding c.loop-self.self < c.args.upto = omega (arith, held_length r.places r.head r.len) in
     fill_more g.S.Source.ahead g.S.Source.kept g.S.Source.ended c.args.upto c.args.self.now c.loop-self.self c.in-Some.c c.push.new.self c.step.new.self
-    c.loop-self.invariant c.loop-self-test.true lt c.push.ensures.holds c.in-Some.ensures.gives c.step.ensures.keeps
+    c.loop-self.invariant c.if-not-self.true lt c.push.ensures.holds c.in-Some.ensures.gives c.step.ensures.keeps

@@ -1,6 +1,5 @@
-use Rattle.std.proofs.Common.{refl, arith, length-drop}
-use Rattle.utf8.proofs.Leads.{forward, told_char}
-use Rattle.text_bytes.proofs.Places.{moved, none_ahead, never, step_ascii, step_char}
+use Rattle.std.proofs.Common.{refl, arith}
+use Rattle.text_bytes.proofs.Places.{moved, none_ahead, step_ascii, step_first}
 use Rattle.text_bytes.proofs.cursor.Cursor.first.Goals as goal
 
 pub returns-then-place-text : goal.returns-then-place-text
@@ -18,25 +17,19 @@ returns-then-byte-lt128 c =
     let b = x.placed.boundary.0 in
     record { text = refl; first = (step_ascii _ _ c.from.result x.placed (omega arith) c.from.ensures (omega arith)).first; onward = omega arith }
 
-pub overflow_add-next-in-Ok-Some : goal.overflow_add-next-in-Ok-Some
-overflow_add-next-in-Ok-Some c =
+pub overflow_add-next-2 : goal.overflow_add-next-2
+overflow_add-next-2 c =
     let x = c.args.self.now in
-    let b = x.placed.boundary.0 in
-    let f = forward _ _ _ (told_char _ _ _ _ c.in-Ok-Some.field-0-is c.in-Ok-Some.ensures.decodes) in
-    let l = length-drop x.place x.text.now in
+    let b = (step_first _ _ _ _ x.placed c.in_ok-c.ensures c.len_utf8.ensures.value).boundary.0 in
     omega arith
 
-pub invariant_of-result-in-Ok-Some : goal.invariant_of-result-in-Ok-Some
-invariant_of-result-in-Ok-Some c =
+pub invariant_of-result-2 : goal.invariant_of-result-2
+invariant_of-result-2 c =
     let x = c.args.self.now in
-    record { placed = moved _ _ _ x.placed (step_char _ _ _ _ x.placed (told_char _ _ _ _ c.in-Ok-Some.field-0-is c.in-Ok-Some.ensures.decodes)).boundary }
+    record { placed = moved _ _ _ x.placed (step_first _ _ _ _ x.placed c.in_ok-c.ensures c.len_utf8.ensures.value).boundary }
 
-pub returns-in-Ok-Some : goal.returns-in-Ok-Some
-returns-in-Ok-Some c =
+pub returns : goal.returns
+returns c =
     let x = c.args.self.now in
-    let is = told_char _ _ _ _ c.in-Ok-Some.field-0-is c.in-Ok-Some.ensures.decodes in
-    let f = forward _ _ _ is in
-    record { text = refl; first = (step_char _ _ _ _ x.placed is).first; onward = omega arith }
-
-pub returns-in-Err : goal.returns-in-Err
-returns-in-Err c = absurd (never _ _ c.args.self.now.placed (c.in-Err.ensures.decodes.ill refl))
+    let s = step_first _ _ _ _ x.placed c.in_ok-c.ensures c.len_utf8.ensures.value in
+    record { text = refl; first = s.first; onward = omega (arith, c.len_utf8.ensures.lower_bound) }
