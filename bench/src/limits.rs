@@ -128,51 +128,46 @@ fn counted_line(text: &[u8], mut place: usize) -> (usize, usize) {
     (place + length, chars + count(&rest[..length]))
 }
 
-#[inline(never)]
-fn find_lines(text: &[u8]) -> Seen {
+/// Goes from line to line. `next` tells the end of the line at a place and what is counted of it; `take` is given the line.
+#[inline(always)]
+fn by_lines(
+    text: &[u8],
+    next: impl Fn(&[u8], usize) -> (usize, usize),
+    mut take: impl FnMut(&[u8]),
+) -> Seen {
     let mut seen = Seen::default();
     let mut place = 0;
     loop {
-        let end = line_end(text, place);
-        seen.part(end - place);
+        let (end, part) = next(text, place);
+        take(&text[place..end]);
+        seen.part(part);
         if end == text.len() {
             return seen;
         }
         seen.part(1);
         place = end + 1;
     }
+}
+
+#[inline(never)]
+fn find_lines(text: &[u8]) -> Seen {
+    let next = |text: &[u8], place| {
+        let end = line_end(text, place);
+        (end, end - place)
+    };
+    by_lines(text, next, |_| ())
 }
 
 #[inline(never)]
 fn count_lines(text: &[u8]) -> Seen {
-    let mut seen = Seen::default();
-    let mut place = 0;
-    loop {
-        let (end, chars) = counted_line(text, place);
-        seen.part(chars);
-        if end == text.len() {
-            return seen;
-        }
-        seen.part(1);
-        place = end + 1;
-    }
+    by_lines(text, counted_line, |_| ())
 }
 
 #[inline(never)]
 fn copy_lines(text: &[u8], room: &mut [u8]) -> Seen {
-    let mut seen = Seen::default();
-    let mut place = 0;
-    loop {
-        let (end, chars) = counted_line(text, place);
-        let line = &text[place..end];
-        room[..line.len()].copy_from_slice(line);
-        seen.part(chars);
-        if end == text.len() {
-            return seen;
-        }
-        seen.part(1);
-        place = end + 1;
-    }
+    by_lines(text, counted_line, |line| {
+        room[..line.len()].copy_from_slice(line)
+    })
 }
 
 #[inline(never)]

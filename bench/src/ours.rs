@@ -7,46 +7,22 @@ use crate::text::Text;
 /// A loop: its number, the text, how many characters it reads if it reads by a count, and the room.
 type Loop = unsafe extern "C" fn(u32, *const u8, usize, usize, *mut u8, usize) -> Seen;
 
-unsafe extern "C" {
-    fn bench_slice(
-        task: u32,
-        text: *const u8,
-        len: usize,
-        count: usize,
-        room: *mut u8,
-        room_len: usize,
-    ) -> Seen;
-    fn bench_ring(
-        task: u32,
-        text: *const u8,
-        len: usize,
-        count: usize,
-        room: *mut u8,
-        room_len: usize,
-    ) -> Seen;
-    fn bench_failing_ring(
-        task: u32,
-        bytes: *const u8,
-        len: usize,
-        count: usize,
-        room: *mut u8,
-        room_len: usize,
-    ) -> Seen;
+/// Declares functions of the library that have the same parameters.
+macro_rules! declare {
+    ($parameters:tt: $($name:ident)*) => {
+        unsafe extern "C" {
+            $(fn $name $parameters -> Seen;)*
+        }
+    };
 }
+
+declare!((task: u32, text: *const u8, len: usize, count: usize, room: *mut u8, room_len: usize):
+    bench_slice bench_ring bench_failing_ring);
+declare!((text: *const u8, len: usize, room: *mut u8, room_len: usize):
+    bench_slice_in_flow bench_ring_in_flow bench_failing_ring_in_flow);
 
 /// A loop by tokens in flow: the text and the room.
 type FlowLoop = unsafe extern "C" fn(*const u8, usize, *mut u8, usize) -> Seen;
-
-unsafe extern "C" {
-    fn bench_slice_in_flow(text: *const u8, len: usize, room: *mut u8, room_len: usize) -> Seen;
-    fn bench_ring_in_flow(text: *const u8, len: usize, room: *mut u8, room_len: usize) -> Seen;
-    fn bench_failing_ring_in_flow(
-        bytes: *const u8,
-        len: usize,
-        room: *mut u8,
-        room_len: usize,
-    ) -> Seen;
-}
 
 fn call_in_flow(kind: Kind, text: Text, room: &mut [u8]) -> Seen {
     let call: FlowLoop = match kind {
