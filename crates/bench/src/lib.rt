@@ -4,11 +4,9 @@
 pub mod loops;
 
 use crate::loops::{Seen, run, run_in_flow};
-use buffered::buffered::BufferedInput;
-use buffered::fallible::FallibleBufferedInput;
-use source::bytes::ByteChars;
-use source::text::TextChars;
-use str_input::text::StrInput;
+use buffered::{BufferedInput, FallibleBufferedInput};
+use source::{ByteChars, TextChars};
+use str_input::StrInput;
 
 /// A loop over a text as one slice. The text is checked first; one that is refused is not read.
 #[unsafe(no_mangle)]
@@ -23,9 +21,8 @@ pub extern "C" fn bench_slice(task: u32, text: &[u8], count: usize, room: &mut [
 /// A loop over a ring over the characters of a text, which is checked first.
 #[unsafe(no_mangle)]
 pub extern "C" fn bench_ring(task: u32, text: &[u8], count: usize, room: &mut [u8]) -> Seen {
-    let mut source = TextChars::new();
-    match source.load(text) {
-        Ok(()) => run(task, &mut BufferedInput::new(source), count, room),
+    match TextChars::of(text) {
+        Ok(source) => run(task, &mut BufferedInput::new(source), count, room),
         Err(_) => Seen::new(),
     }
 }
@@ -38,9 +35,8 @@ pub extern "C" fn bench_failing_ring(
     count: usize,
     room: &mut [u8],
 ) -> Seen {
-    let mut source = ByteChars::new();
-    match source.load(bytes) {
-        Ok(()) => run(task, &mut FallibleBufferedInput::new(source), count, room),
+    match ByteChars::of(bytes) {
+        Ok(source) => run(task, &mut FallibleBufferedInput::new(source), count, room),
         Err(_) => Seen::new(),
     }
 }
@@ -55,22 +51,20 @@ pub extern "C" fn bench_slice_in_flow(text: &[u8], room: &mut [u8]) -> Seen {
     }
 }
 
-/// The same by a ring over the characters of a text.
+/// A loop over a text in flow, by a ring over its characters.
 #[unsafe(no_mangle)]
 pub extern "C" fn bench_ring_in_flow(text: &[u8], room: &mut [u8]) -> Seen {
-    let mut source = TextChars::new();
-    match source.load(text) {
-        Ok(()) => run_in_flow(&mut BufferedInput::new(source), room),
+    match TextChars::of(text) {
+        Ok(source) => run_in_flow(&mut BufferedInput::new(source), room),
         Err(_) => Seen::new(),
     }
 }
 
-/// The same by a ring over the characters of any bytes.
+/// A loop over any bytes in flow, by a ring over their characters.
 #[unsafe(no_mangle)]
 pub extern "C" fn bench_failing_ring_in_flow(bytes: &[u8], room: &mut [u8]) -> Seen {
-    let mut source = ByteChars::new();
-    match source.load(bytes) {
-        Ok(()) => run_in_flow(&mut FallibleBufferedInput::new(source), room),
+    match ByteChars::of(bytes) {
+        Ok(source) => run_in_flow(&mut FallibleBufferedInput::new(source), room),
         Err(_) => Seen::new(),
     }
 }

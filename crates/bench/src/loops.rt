@@ -1,8 +1,7 @@
 //! The loops, each written once for every input that scans.
 
 use input::calls::next_is_break;
-use runs::SkipTabs;
-use scan::Scan;
+use runs::{Scan, SkipTabs};
 
 /// More turns than any loop here takes: each turn but the last takes a character or more, and no text has so many.
 const TURNS: usize = 70_000;

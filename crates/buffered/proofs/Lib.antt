@@ -1,2 +1,3 @@
+pub mod Rings
 pub mod Filling
 pub mod Taking

@@ -1,21 +1,21 @@
--- What is drawn, taken and drawn again. Assumes nothing.
-use Rattle.std.proofs.Common.{◌≡◌, ℕ, ◌<◌, Bool, true, false, cond, ◌&&◌, ◌||◌, eqb, ltb, List, [], ◌∷◌, ◌++◌, length, Some, None, Option, sym, refl, ap, ◌∙◌, ap₂, arith, ltb-true}
-use lib.Dec.{eqb-suc-zero}
+-- What is drawn, taken and drawn again.
+use Rattle.std.proofs.Common.{◌≡◌, ℕ, ◌<◌, Bool, true, false, cond, ◌||◌, ltb, List, [], ◌∷◌, ◌++◌, length, Some, None, Option, sym, refl, ap, ◌∙◌, ap₂, arith, ltb-true}
 use Rattle.error.specs.Numbers.{Ending, clean}
 use Rattle.char_traits.specs.Chars.{breakz}
 use Rattle.input.specs.View.{View, Keeps, exactly}
 use Rattle.input.specs.Calls.{none_left, first_of, first_in_line}
 use Rattle.input.proofs.Keeping.{never, one_is_none}
 use Rattle.buffered.specs.declared.ring.Ring.{Ring}
-use Rattle.buffered.specs.declared.store.Store.{Store}
-use Rattle.buffered.specs.Store.{queue, to_come, all_of, holding, Fills, Feeds}
-use Rattle.buffered.specs.Buffered.{ring_manner, at_end}
-use Rattle.buffered.specs.Rings.{held_length}
+use Rattle.source.specs.Met.{to_come}
+use Rattle.buffered.specs.Ring.{queue}
+use Rattle.buffered.specs.declared.feed.Feed.{Feed}
+use Rattle.buffered.specs.Feed.{feed_ahead, held_count, Fills, Feeds}
+use Rattle.buffered.specs.Buffered.{ring_manner}
 
-abbrev pub view_of : {S : Type 0} → (S → List ℕ) → Store S → ℕ → View S
+abbrev pub view_of : {S : Type 0} → (S → List ℕ) → Feed S → ℕ → View S
 view_of ahead x window =
     record {
-      ahead = all_of ahead x;
+      ahead = feed_ahead ahead x;
       window = window;
       ending = clean;
       met = x.met;
@@ -37,7 +37,7 @@ or_false true = refl
 or_false false = refl
 
 module _ {S : Type 0} (ahead : S → List ℕ) (kept : S → Ending) (ended : S → Bool) where
-  pub feeds_on : (x y z : Store S) → Feeds kept ended x y → Feeds kept ended y z → Feeds kept ended x z
+  pub feeds_on : (x y z : Feed S) → Feeds kept ended x y → Feeds kept ended y z → Feeds kept ended x z
   feeds_on x y z f g =
       record {
         stays = λ m. g.stays (f.stays m);
@@ -46,28 +46,28 @@ module _ {S : Type 0} (ahead : S → List ℕ) (kept : S → Ending) (ended : S 
       }
 
   -- the same source beside another ring
-  pub beside : (x : Store S) (ring : Ring) → Feeds kept ended x (record { source = x.source; ring = ring; met = x.met })
+  pub beside : (x : Feed S) (ring : Ring) → Feeds kept ended x (record { source = x.source; ring = ring; met = x.met })
   beside x ring = record { stays = λ m. m; keeps = refl; ends = λ h m. h m }
 
   -- a ring that is as long as its window, or has met its end, stays so
-  pub stays_filled : (upto window : ℕ) (x y : Store S) → (holding x < window → x.met ≡ true) → Fills ahead upto x y
-      → holding y < window → y.met ≡ true
+  pub stays_filled : (upto window : ℕ) (x y : Feed S) → (held_count x < window → x.met ≡ true) → Fills ahead upto x y
+      → held_count y < window → y.met ≡ true
   stays_filled upto window x y filled f h = f.met ∙ or_left x.met _ (filled (omega (arith, f.grows)))
 
-  module _ (x y : Store S) (one : Fills ahead 1 x y) where
+  module _ (x y : Feed S) (one : Fills ahead 1 x y) where
     -- the next character was looked for
-    pub looked_next : y.met ≡ x.met || none_left (all_of ahead x)
-    looked_next = one.met ∙ ap (λ b. x.met || b) (one_is_none (all_of ahead x))
+    pub looked_next : y.met ≡ x.met || none_left (feed_ahead ahead x)
+    looked_next = one.met ∙ ap (λ b. x.met || b) (one_is_none (feed_ahead ahead x))
 
-    pub first_held : first_of (queue y.ring) ≡ first_of (all_of ahead x)
+    pub first_held : first_of (queue y.ring) ≡ first_of (feed_ahead ahead x)
     first_held = go (queue y.ring) refl
       where
-        go : (q : List ℕ) → queue y.ring ≡ q → first_of q ≡ first_of (all_of ahead x)
+        go : (q : List ℕ) → queue y.ring ≡ q → first_of q ≡ first_of (feed_ahead ahead x)
         go [] e =
             let m = one.full (omega (arith, ap length e)) in
-            let none : all_of ahead y ≡ [] = ap₂ (λ p b. p ++ cond b [] (ahead y.source)) e m in
+            let none : feed_ahead ahead y ≡ [] = ap₂ (λ p b. p ++ cond b [] (ahead y.source)) e m in
             ap first_of (sym none ∙ one.same)
-        go (c ∷ q) e = ap (λ p. first_of (p ++ to_come ahead y)) (sym e) ∙ ap first_of one.same
+        go (c ∷ q) e = ap (λ p. first_of (p ++ to_come y.met (ahead y.source))) (sym e) ∙ ap first_of one.same
 
     widen : (a b d : Bool) → (d ≡ true → a ≡ true) → a || b ≡ a || (b || d)
     widen true b d h = refl
@@ -75,8 +75,8 @@ module _ {S : Type 0} (ahead : S → List ℕ) (kept : S → Ending) (ended : S 
     widen false false true h = h refl
     widen false false false h = refl
 
-    pub keeps_next : (window : ℕ) → (length (all_of ahead x) < window → x.met ≡ true)
-        → Keeps (none_left (all_of ahead x)) (exactly 0) (view_of ahead x window) (view_of ahead y window)
+    pub keeps_next : (window : ℕ) → (length (feed_ahead ahead x) < window → x.met ≡ true)
+        → Keeps (none_left (feed_ahead ahead x)) (exactly 0) (view_of ahead x window) (view_of ahead y window)
     keeps_next window waits =
         record {
           manner = refl;
@@ -89,21 +89,9 @@ module _ {S : Type 0} (ahead : S → List ℕ) (kept : S → Ending) (ended : S 
           narrow = λ _. omega arith;
           late = λ _.
               looked_next
-              ∙ widen x.met (none_left (all_of ahead x)) (ltb (length (all_of ahead y)) window)
+              ∙ widen x.met (none_left (feed_ahead ahead x)) (ltb (length (feed_ahead ahead y)) window)
               (λ t. let lt = ltb-true _ _ t in waits (omega (arith, ap length one.same)));
         }
-
-pub none_length : (q : List ℕ) (n : ℕ) → length q ≡ n → eqb n 0 ≡ none_left q
-none_length [] n e = ap (λ k. eqb k 0) (sym e)
-none_length (c ∷ q) n e = ap (λ k. eqb k 0) (sym e) ∙ eqb-suc-zero (length q)
-
--- the end is told, by whether the ending was met
-pub end_when_met : {S : Type 0} (x : Store S) → x.met ≡ true → eqb x.ring.len 0 ≡ at_end x
-end_when_met x m =
-    none_length (queue x.ring) x.ring.len (held_length x.ring.places x.ring.head x.ring.len) ∙ ap (λ (b : Bool). b && none_left (queue x.ring)) (sym m)
-
-pub end_when_unmet : {S : Type 0} (x : Store S) → x.met ≡ false → false ≡ at_end x
-end_when_unmet x m = ap (λ (b : Bool). b && none_left (queue x.ring)) (sym m)
 
 -- nothing is read at the end of a line
 pub line_break : (a : List ℕ) (r : Option ℕ) (c : ℕ) → r ≡ first_of a → r ≡ Some c → breakz c ≡ true → None ≡ first_in_line a

@@ -1,6 +1,7 @@
-pub mod Queue
-pub mod Rings
-pub mod Store
+pub mod Ring
+pub mod RingLaws
+pub mod Feed
 pub mod Buffered
-pub mod Chars
+pub mod BufferedLaws
 pub mod Fallible
+pub mod FallibleLaws

@@ -1,4 +1,4 @@
--- How the classes lie to each other. Assumes nothing.
+-- How the classes lie to each other.
 use Rattle.std.proofs.Common.{arith}
 use Rattle.std.proofs.lemmas.Bool.Decides.{nat_tests}
 use Rattle.char_traits.specs.Ties.{Ties}

@@ -1,4 +1,4 @@
--- The classes of characters, from the productions of YAML 1.2.2. A character is its number. Assumes nothing.
+-- The classes of characters, from the productions of YAML 1.2.2. A character is its number.
 use Rattle.std.specs.Prelude.{ℕ, ◌-◌, Bool, cond, not, ◌&&◌, ◌||◌, ◌==◌}
 use Rattle.std.specs.Int.{is_in_range}
 
@@ -56,7 +56,9 @@ bom c = c == 0xFEFF
 abbrev pub printable : ℕ → Bool
 printable c =
     (c == 0x09 || (c == 0x0A || (c == 0x0D || is_in_range 0x20 0x7E c)))
-    || (c == 0x85 || (is_in_range 0xA0 0xD7FF c || (is_in_range 0xE000 0xFFFD c || is_in_range 0x10000 0x10FFFF c)))
+    || (c == 0x85
+    || (is_in_range 0xA0 0xD7FF c
+    || (is_in_range 0xE000 0xFFFD c || is_in_range 0x10000 0x10FFFF c)))
 
 -- nb-char: c-printable without b-char and c-byte-order-mark
 abbrev pub yaml_non_break : ℕ → Bool

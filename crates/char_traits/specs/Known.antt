@@ -1,4 +1,4 @@
--- What is known of a set of characters before any is held against it. Assumes nothing.
+-- What is known of a set of characters before any is held against it.
 use Rattle.std.specs.Prelude.{◌≡◌, ℕ, ◌<◌, ◌≤◌, Bool, true, false, not, ◌&&◌, nat_le}
 use Rattle.std.proofs.Math.Utf8.{scalar}
 use Rattle.std.specs.Int.{is_in_range}

@@ -1,4 +1,4 @@
--- How the classes lie to each other. Assumes nothing.
+-- How the classes lie to each other.
 use Rattle.std.specs.Prelude.{◌≡◌, ℕ, Bool, true, false}
 use Rattle.char_traits.specs.Chars.{z, line_break, breakz, blank, blank_or_breakz, digit, word, alpha, hex, flow, bom, printable, yaml_non_break, yaml_non_space, anchor, uri, tag}
 

@@ -9,13 +9,17 @@ use crate::{
     is_alpha, is_blank, is_blank_or_breakz, is_breakz, is_flow, is_printable, is_yaml_non_space,
 };
 
-/// A set of characters, told by a value. NUL is in none, so that a run of the set ends at the padding past the end.
+/// A set of characters, told by a value.
 pub trait Class {
+    /// Which characters are in it, by their numbers.
     ghost member: { Self → ℕ → Bool };
 
+    /// Whether a character is in it.
     fn has(&self, c: char) -> bool
         ensures { result ≡ member self.now c };
 
+    /// A law: NUL is not in it. It is what a peek shows past the end, so that no `:` that stands last belongs to a
+    /// plain run. No scan ends by it: each asks for the next character.
     ghost without_nul: { (class : Self) → member class 0 ≡ false };
 
     /// Characters that are known to be in it, so that a scan need not ask for each; none where nothing is said.

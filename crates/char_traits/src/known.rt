@@ -51,7 +51,7 @@ impl Known {
         }
     }
 
-    /// The same without the flow characters.
+    /// Without the flow characters.
     pub fn but_flow(self) -> Known
         ensures { result ≡ without_flow self }
     {

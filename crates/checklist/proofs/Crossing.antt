@@ -1,5 +1,6 @@
--- Runs within a line pass no line end. Assumes nothing.
+-- Runs within a line pass no line end.
 use Rattle.std.proofs.Common.{◌≡◌, ℕ, suc, ◌+◌, ◌≤◌, Bool, true, false, cond, not, ◌&&◌, List, [], ◌∷◌, ◌++◌, length, get_or, drop, sym, refl, ap, ◌∙◌, arith, length-drop}
+use mathlib.Core.List.{IsPrefix}
 use Rattle.std.proofs.lemmas.Bool.Decides.{nat_tests}
 use Rattle.char_traits.specs.Chars.{breakz, printable, not_breakz, printable_not_breakz, plain_safe}
 use Rattle.input.specs.Calls.{none_left}
@@ -8,7 +9,7 @@ use Rattle.runs.specs.declared.SkipTabs.{SkipTabs}
 use Rattle.runs.specs.declared.SkipTabs.TheVariants.{Yes, No}
 use Rattle.runs.specs.declared.Colon.TheVariants.{Free, Leads}
 use Rattle.runs.specs.Runs.{goes, run_by, run_of, separates, blanks_of, after_blanks, at_hash, comment_of, eol_run}
-use Rattle.runs.proofs.Fronts.{Front, run_front, eol_front}
+use Rattle.runs.proofs.Fronts.{prefix_left, run_prefix, eol_prefix}
 use Rattle.checklist.specs.Lines.{line_ends}
 
 ends_append : (a b : List ℕ) → line_ends (a ++ b) ≡ line_ends a + line_ends b
@@ -26,8 +27,8 @@ run_free go in_line (c ∷ a) = step (run_free go in_line a) (go c (get_or a 0 0
     step rest true e = ap (λ (x : Bool). cond x (suc (line_ends (run_by go a))) (line_ends (run_by go a))) (in_line c (get_or a 0 0) e) ∙ rest
     step rest false e = refl
 
-pub front_keeps : (run a : List ℕ) → Front run a → line_ends run ≡ 0 → line_ends (drop (length run) a) ≡ line_ends a
-front_keeps run a f free = let e = ap line_ends f ∙ ends_append run (drop (length run) a) in omega arith
+pub front_keeps : (run a : List ℕ) → IsPrefix run a → line_ends run ≡ 0 → line_ends (drop (length run) a) ≡ line_ends a
+front_keeps run a f free = let e = ap line_ends (prefix_left run a f) ∙ ends_append run (drop (length run) a) in omega arith
 
 separates_in_line : (tabs : SkipTabs) (c : ℕ) → separates tabs c ≡ true → breakz c ≡ false
 separates_in_line Yes c e = grind (arith, nat_tests)
@@ -61,18 +62,18 @@ eol_free tabs a =
 
 -- what a skip leaves ahead, by the number that it told
 module _ (n : ℕ) (before after : List ℕ) where
-  left : (run : List ℕ) → Front run before → line_ends run ≡ 0 → n ≡ length run → after ≡ drop n before → line_ends after ≡ line_ends before
+  left : (run : List ℕ) → IsPrefix run before → line_ends run ≡ 0 → n ≡ length run → after ≡ drop n before → line_ends after ≡ line_ends before
   left run f free number e = ap line_ends (e ∙ ap (λ k. drop k before) number) ∙ front_keeps run before f free
 
   pub eol_keeps : (tabs : SkipTabs) → n ≡ length (eol_run tabs before) → after ≡ drop n before → line_ends after ≡ line_ends before
-  eol_keeps tabs = left (eol_run tabs before) (eol_front tabs before) (eol_free tabs before)
+  eol_keeps tabs = left (eol_run tabs before) (eol_prefix tabs before) (eol_free tabs before)
 
   pub plain_keeps : n ≡ length (run_by (goes (plain_safe false) Leads) before) → after ≡ drop n before → line_ends after ≡ line_ends before
-  plain_keeps = left (run_by (goes (plain_safe false) Leads) before) (run_front (goes (plain_safe false) Leads) before) (run_free (goes (plain_safe false) Leads) plain_in_line before)
+  plain_keeps = left (run_by (goes (plain_safe false) Leads) before) (run_prefix (goes (plain_safe false) Leads) before) (run_free (goes (plain_safe false) Leads) plain_in_line before)
 
   pub printable_keeps : n ≡ length (run_of printable_not_breakz before) → after ≡ drop n before → line_ends after ≡ line_ends before
   printable_keeps =
-      left (run_of printable_not_breakz before) (run_front (goes printable_not_breakz Free) before) (run_free (goes printable_not_breakz Free) (λ c _. printable_in_line c) before)
+      left (run_of printable_not_breakz before) (run_prefix (goes printable_not_breakz Free) before) (run_free (goes printable_not_breakz Free) (λ c _. printable_in_line c) before)
 
   pub dropped_fewer : after ≡ drop n before → length after ≤ length before
   dropped_fewer e = omega (arith, ap length e ∙ length-drop n before)

@@ -1,4 +1,4 @@
--- A front of some codes. Assumes nothing.
+-- A front of some codes.
 use Rattle.std.proofs.Common.{ℕ, ◌≤◌, List, length, take, arith, length-take}
 
 pub take_short : (n : ℕ) (cs : List ℕ) (most : ℕ) → length cs ≤ most → length (take n cs) ≤ most

@@ -1,4 +1,4 @@
--- Pulls as far as they have come. Assumes nothing.
+-- Pulls as far as they have come.
 use Rattle.std.proofs.Common.{◌≡◌, ℕ, ◌+◌, ◌-◌, ◌*◌, ◌^◌, ◌<◌, ◌≤◌, min, max, ap, ◌∙◌, arith}
 use Rattle.checklist.specs.Pulls.{PulledAll}
 

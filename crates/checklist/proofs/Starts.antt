@@ -1,4 +1,4 @@
--- A marker that was asked for, where no answer counts as no. Assumes nothing.
+-- A marker that was asked for, where no answer counts as no.
 use Rattle.std.proofs.Common.{◌≡◌, ℕ, ◌<◌, ◌≤◌, Bool, false, List, Ok, Err, Option, Result, ap, ◌∙◌}
 use Rattle.std.specs.Result.{result_unwrap_or}
 use Rattle.error.specs.Numbers.{outcome}

@@ -1,4 +1,4 @@
--- Line ends. Assumes nothing.
+-- Line ends.
 use Rattle.std.specs.Prelude.{◌≡◌, ℕ, suc, ◌+◌, ◌<◌, ◌≤◌, Bool, true, false, cond, ◌&&◌, List, [], ◌∷◌, length, drop, Option, ◌==◌, slice_index}
 use Rattle.char_traits.specs.Chars.{breakz, digit}
 use Rattle.input.specs.View.{View}
@@ -33,7 +33,9 @@ pub record DigitsEnd (bytes : List ℕ) (from end : ℕ) : Type 0 where
 
 -- a setpoint begins at a place: a digit after : and a space
 abbrev pub setpoint_at : List ℕ → ℕ → Bool
-setpoint_at bytes at = slice_index bytes at == 0x3A && (slice_index bytes (at + 1) == 0x20 && digit (slice_index bytes (at + 2)))
+setpoint_at bytes at =
+    slice_index bytes at == 0x3A
+    && (slice_index bytes (at + 1) == 0x20 && digit (slice_index bytes (at + 2)))
 
 -- no setpoint begins before a place
 abbrev pub NoSetpoint : List ℕ → ℕ → Type 0
@@ -41,5 +43,6 @@ NoSetpoint bytes place = (k : ℕ) → k < place → setpoint_at bytes k ≡ fal
 
 -- the digits of the first setpoint, or the end where there is none
 pub data SetpointEnd (bytes : List ℕ) (end : ℕ) : Type 0 where
-  after : (place : ℕ) → NoSetpoint bytes place → setpoint_at bytes place ≡ true → DigitsEnd bytes (place + 2) end → SetpointEnd bytes end
+  after : (place : ℕ) → NoSetpoint bytes place → setpoint_at bytes place ≡ true
+      → DigitsEnd bytes (place + 2) end → SetpointEnd bytes end
   none : NoSetpoint bytes (length bytes) → end ≡ length bytes → SetpointEnd bytes end

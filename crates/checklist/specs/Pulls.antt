@@ -1,4 +1,4 @@
--- How often a cable is pulled. Assumes nothing.
+-- How often a cable is pulled.
 use Rattle.std.specs.Prelude.{◌≡◌, ℕ, ◌+◌, ◌-◌, ◌*◌, ◌<◌, ◌≤◌, max}
 
 -- once at 0 and at each multiple of `every`, or of 1 if that is 0, that lies before the end, and once at the end

@@ -1,8 +1,8 @@
--- An input that was read to its end. Assumes nothing.
+-- An input that was read to its end.
 use Rattle.std.specs.Prelude.{◌≡◌, ℕ, List, []}
 use Rattle.input.specs.declared.Closing.{Closing}
 use Rattle.input.specs.View.{View}
-use Rattle.input.specs.Calls.{closed, closing_of}
+use Rattle.input.specs.Calls.{closing_number, closing_of}
 
 -- all that was ahead is taken
 pub record Drained {H : Type 0} (chars : List ℕ) (v w : View H) : Type 0 where
@@ -13,4 +13,4 @@ pub record Drained {H : Type 0} (chars : List ℕ) (v w : View H) : Type 0 where
 -- and the closing is that of the ending
 pub record ReadOut {H : Type 0} (chars : List ℕ) (closing : Closing) (v : View H) : Type 0 where
   pub all : chars ≡ v.ahead
-  pub told : closed closing ≡ closed (closing_of [] v.ending)
+  pub told : closing_number closing ≡ closing_number (closing_of [] v.ending)

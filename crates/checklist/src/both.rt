@@ -3,17 +3,17 @@
 ghost use Rattle.std.specs.Prelude.{◌≡◌, [], IfOk, MatchResult};
 ghost use Rattle.std.specs.Str.{chars};
 ghost use Rattle.error.specs.Numbers.{outcome};
-ghost use Rattle.utf8.specs.Checking.{Checked};
+ghost use Rattle.utf8.specs.Checking.{ChecksText};
 ghost use Rattle.checklist.specs.Lines.{start_at, hash_at, line_ends};
 ghost use Rattle.checklist.specs.Both.{OnBoth, WholeText, RefusedFor};
 
 use crate::readings::{Taken, read_out};
 use crate::scans::{count_line_ends, finds_start, leaves_hash};
-use buffered::fallible::FallibleBufferedInput;
+use buffered::FallibleBufferedInput;
 use error::Refusal;
-use source::bytes::ByteChars;
+use source::ByteChars;
 use std::alloc::{AllocError, Global};
-use str_input::text::StrInput;
+use str_input::StrInput;
 
 /// One text on the card and on the cable, of which nothing was taken yet.
 #[derive(Drop)]
@@ -25,14 +25,12 @@ pub struct Sides<'a> {
 impl<'a> Sides<'a> {
     /// A text, unless its bytes are refused: 1 if they are too many, 2 at the first that is ill-formed.
     pub fn of(bytes: &'a [u8]) -> Result<Sides<'a>, Refusal>
-        ensures checked { Checked bytes.now (outcome (λ _. []) result) }
+        ensures checked { ChecksText bytes.now (outcome (λ _. []) result) }
         ensures both { IfOk result (OnBoth bytes.now) }
     {
         let mut card = StrInput::new();
         card.load(bytes)?;
-        let mut source = ByteChars::new();
-        source.load(bytes)?;
-        let cable = FallibleBufferedInput::new(source);
+        let cable = FallibleBufferedInput::new(ByteChars::of(bytes)?);
         Ok(Sides { card, cable })
     }
 }
@@ -81,7 +79,7 @@ pub fn read_both(heap: Global, bytes: &[u8]) -> Result<Both, Unread>
 
 /// Whether by both a document start stands after so many characters.
 pub fn both_find_start(bytes: &[u8], place: usize) -> Result<bool, Refusal>
-    ensures checked { Checked bytes.now (outcome (λ _. []) result) }
+    ensures checked { ChecksText bytes.now (outcome (λ _. []) result) }
     ensures found { IfOk result (λ found. found ≡ start_at (chars bytes.now) place) }
 {
     let mut sides = Sides::of(bytes)?;
@@ -92,7 +90,7 @@ pub fn both_find_start(bytes: &[u8], place: usize) -> Result<bool, Refusal>
 
 /// Whether by both a `#` after so many characters is left.
 pub fn both_leave_hash(bytes: &[u8], place: usize) -> Result<bool, Refusal>
-    ensures checked { Checked bytes.now (outcome (λ _. []) result) }
+    ensures checked { ChecksText bytes.now (outcome (λ _. []) result) }
     ensures left { IfOk result (λ left. left ≡ hash_at (chars bytes.now) place) }
 {
     let mut sides = Sides::of(bytes)?;
@@ -110,7 +108,7 @@ pub struct LineEnds {
 
 /// Skips from line end to line end by both.
 pub fn both_count_line_ends(bytes: &[u8]) -> Result<LineEnds, Refusal>
-    ensures checked { Checked bytes.now (outcome (λ _. []) result) }
+    ensures checked { ChecksText bytes.now (outcome (λ _. []) result) }
     ensures card { IfOk result (λ ends. ends.card ≡ line_ends (chars bytes.now)) }
     ensures cable { IfOk result (λ ends. ends.cable ≡ line_ends (chars bytes.now)) }
 {

@@ -2,21 +2,21 @@
 
 ghost use Rattle.std.specs.Prelude.{◌≡◌, ◌+◌, ◌^◌, ◌<◌, ◌≤◌, true, [], ◌∷◌, length, take, IfOk};
 ghost use Rattle.std.proofs.Math.Utf8.{scalars};
-ghost use Rattle.input.specs.Calls.{closed};
+ghost use Rattle.input.specs.Calls.{closing_number};
 ghost use Rattle.source.specs.CodeLimit.{code_limit};
 ghost use Rattle.checklist.specs.Pulls.{PulledAll};
 
 use crate::readings::read_out;
-use buffered::fallible::FallibleBufferedInput;
+use buffered::FallibleBufferedInput;
 use error::FaultKind;
 use input::Closing;
-use source::codes::{Codes, CodesEnding};
+use source::{Codes, CodesEnding};
 use std::alloc::{AllocError, Global};
 
 /// Whether a closing tells that the line failed after so many characters.
 fn tells_pull(closing: Closing, place: usize) -> bool
-    ensures told { closed closing ≡ (8, place ∷ []) → result ≡ true }
-    ensures only { result ≡ true → closed closing ≡ (8, place ∷ []) }
+    ensures told { closing_number closing ≡ (8, place ∷ []) → result ≡ true }
+    ensures only { result ≡ true → closing_number closing ≡ (8, place ∷ []) }
 {
     match closing {
         Closing::Failed(fault) => {
@@ -28,13 +28,14 @@ fn tells_pull(closing: Closing, place: usize) -> bool
 
 /// Sends these codes down a cable that is then pulled, and reads them: whether the pull was told with its place, and no character was lost.
 pub fn pull_is_told(heap: Global, codes: &[u32]) -> Result<bool, AllocError>
-    ensures told { IfOk result (λ told. scalars codes.now ≡ true → length codes.now ≤ code_limit → told ≡ true) }
-    ensures only { IfOk result (λ told. told ≡ true → (scalars codes.now ≡ true) × (length codes.now ≤ code_limit)) }
+    ensures told { IfOk result (λ told. scalars codes.now ≡ true → length codes.now ≤ code_limit
+        → told ≡ true) }
+    ensures only { IfOk result (λ told. told ≡ true
+        → (scalars codes.now ≡ true) × (length codes.now ≤ code_limit)) }
 {
-    let mut source = Codes::new();
-    if source.load(codes, CodesEnding::InputIo).is_err() {
+    let Ok(source) = Codes::of(codes, CodesEnding::InputIo) else {
         return Ok(false);
-    }
+    };
     let mut cable = FallibleBufferedInput::new(source);
     let taken = read_out(heap, &mut cable)?;
     Ok(tells_pull(taken.closing, codes.len()) && taken.chars.len() == codes.len())

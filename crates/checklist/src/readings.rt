@@ -16,7 +16,7 @@ pub struct Taken {
 
 /// Takes all that is ahead.
 fn drain<I: Input>(heap: Global, input: &mut I) -> Result<Vec<char>, AllocError>
-    ensures { IfOk result (λ chars. Drained chars.items (I.Input.view input.old) (I.Input.view input.new)) }
+    ensures { IfOk result (λ chars. Drained chars.items (I.view input.old) (I.view input.new)) }
 {
     let mut chars = Vec::new(heap);
     while let Some(c) = input.next_ch() {
@@ -28,7 +28,7 @@ fn drain<I: Input>(heap: Global, input: &mut I) -> Result<Vec<char>, AllocError>
 
 /// Opens a reading, takes all that is ahead, and closes it.
 pub fn read_out<I: Input>(heap: Global, input: &mut I) -> Result<Taken, AllocError>
-    ensures { IfOk result (λ taken. ReadOut taken.chars.items taken.closing (I.Input.view input.old)) }
+    ensures { IfOk result (λ taken. ReadOut taken.chars.items taken.closing (I.view input.old)) }
 {
     let reading = Reading::open(input);
     let drained = drain(heap, input);

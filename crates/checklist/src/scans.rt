@@ -7,13 +7,12 @@ ghost use Rattle.checklist.specs.Lines.{start_at, hash_at, line_ends, WithinLine
 
 use char_traits::is_breakz;
 use input::calls::next_is_document_start;
-use runs::SkipTabs;
-use scan::Scan;
+use runs::{Scan, SkipTabs};
 use std::alloc::{AllocError, Global};
 
 /// Whether a document start stands after so many characters.
 pub fn finds_start<I: Scan>(input: &mut I, place: usize) -> bool
-    ensures { result ≡ start_at (I.Input.view input.old).ahead place }
+    ensures { result ≡ start_at (I.view input.old).ahead place }
 {
     input.skip_n(place);
     input.lookahead(4);
@@ -22,7 +21,7 @@ pub fn finds_start<I: Scan>(input: &mut I, place: usize) -> bool
 
 /// Whether a `#` after so many characters is not skipped as a comment, since it is glued to what stands before it.
 pub fn leaves_hash<I: Scan>(input: &mut I, place: usize) -> bool
-    ensures { result ≡ hash_at (I.Input.view input.old).ahead place }
+    ensures { result ≡ hash_at (I.view input.old).ahead place }
 {
     input.skip_n(place);
     let (count, skipped) = input.skip_ws_to_eol(SkipTabs::Yes);
@@ -31,7 +30,7 @@ pub fn leaves_hash<I: Scan>(input: &mut I, place: usize) -> bool
 
 /// Skips as far as scans go within a line, and tells what is next.
 fn next_after_skips<I: Scan>(input: &mut I) -> Option<char>
-    ensures { WithinLine result (I.Input.view input.old) (I.Input.view input.new) }
+    ensures { WithinLine result (I.view input.old) (I.view input.new) }
 {
     let _ = input.skip_ws_to_eol(SkipTabs::Yes);
     let _ = input.skip_plain_run(false);
@@ -41,7 +40,7 @@ fn next_after_skips<I: Scan>(input: &mut I) -> Option<char>
 
 /// Skips from line end to line end, and counts these: no skip passes one.
 pub fn count_line_ends<I: Scan>(input: &mut I) -> usize
-    ensures { result ≡ line_ends (I.Input.view input.old).ahead }
+    ensures { result ≡ line_ends (I.view input.old).ahead }
 {
     let mut count = 0;
     while let Some(c) = next_after_skips(input) {
@@ -87,13 +86,14 @@ pub fn setpoint_end(bytes: &[u8]) -> usize
 }
 
 /// Bytes put between two parts of others.
-pub fn inserted(
+pub fn insert_at(
     heap: Global,
     bytes: &[u8],
     place: usize,
     more: &[u8],
 ) -> Result<Vec<u8>, AllocError>
-    ensures { IfOk result (λ v. v.items ≡ take place bytes.now ++ (more.now ++ drop place bytes.now)) }
+    ensures { IfOk result (λ v. v.items
+        ≡ take place bytes.now ++ (more.now ++ drop place bytes.now)) }
 {
     let place = place.min(bytes.len());
     let mut all = Vec::new(heap);

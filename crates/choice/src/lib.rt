@@ -4,11 +4,10 @@
 ghost use Rattle.std.specs.Prelude.{◌⊎◌};
 ghost use Rattle.choice.specs.Either.{by_one, one_view, one_sound, one_faithful, one_wide};
 
-pub mod lent;
-pub mod scans;
-
-use error::{Fault, Refusal};
+use error::{Ending, Fault, Refusal};
+use input::borrowed::BorrowedInput;
 use input::{Input, Marker};
+use runs::Scan;
 
 /// One of two inputs. The most that its window can be, and how it keeps its window and its ending,
 /// are those of the one that it is.
@@ -126,10 +125,27 @@ impl<L: Input, R: Input> Input for OneOf<L, R> {
         }
     }
 
-    fn met_fault(&self) -> Option<Fault> {
+    fn met_ending(&self) -> Option<Ending> {
         match self {
-            OneOf::First(input) => input.met_fault(),
-            OneOf::Second(input) => input.met_fault(),
+            OneOf::First(input) => input.met_ending(),
+            OneOf::Second(input) => input.met_ending(),
+        }
+    }
+}
+
+/// It scans character by character, whichever it is.
+impl<L: Input, R: Input> Scan for OneOf<L, R> {}
+
+/// It lends what the one that it is lends.
+impl<'a, L: BorrowedInput<'a>, R: BorrowedInput<'a>> BorrowedInput<'a> for OneOf<L, R> {
+    ghost use Rattle.choice.specs.Either.{LentByOne};
+
+    ghost Lends = { LentByOne L.Lends R.Lends };
+
+    fn slice_borrowed(&self, start: usize, end: usize) -> Option<&'a [u8]> {
+        match self {
+            OneOf::First(input) => input.slice_borrowed(start, end),
+            OneOf::Second(input) => input.slice_borrowed(start, end),
         }
     }
 }

@@ -1,4 +1,4 @@
--- No refusal has the number of what is not refused. Assumes nothing.
+-- No refusal has the number of what is not refused.
 use Rattle.std.proofs.Common.{◌≢◌, arith}
 use Rattle.error.specs.Numbers.{kind_number, number}
 use Rattle.error.specs.declared.FaultKind.{FaultKind}

@@ -1,4 +1,4 @@
--- What is printed of a refusal: its words, its place if it has one, and its number. Assumes nothing.
+-- What is printed of a refusal: its words, its place if it has one, and its number.
 use Rattle.std.specs.Prelude.{ℕ, List, [], ◌++◌, codes, decimal}
 use Rattle.error.specs.declared.FaultKind.{FaultKind}
 use Rattle.error.specs.declared.FaultKind.TheVariants.{InputIo, InputDecoding}
@@ -20,15 +20,18 @@ words BeyondRoom = codes "the filled count lies beyond the room"
 words RoomFull = codes "the next character does not fit the room"
 words (Source fault) = kind_words fault.kind
 
-abbrev pub placed : Refusal → List ℕ
-placed TooLong = []
-placed (IllFormed place) = codes " at byte " ++ decimal place
-placed NotACharacter = []
-placed NarrowWindow = []
-placed CommentNotSeparated = []
-placed BeyondRoom = []
-placed RoomFull = []
-placed (Source fault) = codes " at character " ++ decimal fault.place
+abbrev pub place_words : Refusal → List ℕ
+place_words TooLong = []
+place_words (IllFormed place) = codes " at byte " ++ decimal place
+place_words NotACharacter = []
+place_words NarrowWindow = []
+place_words CommentNotSeparated = []
+place_words BeyondRoom = []
+place_words RoomFull = []
+place_words (Source fault) = codes " at character " ++ decimal fault.place
 
 abbrev pub message : Refusal → List ℕ
-message refusal = words refusal ++ (placed refusal ++ (codes " (refusal " ++ (decimal (number refusal).0 ++ codes ")")))
+message refusal =
+    words refusal
+    ++ (place_words refusal
+    ++ (codes " (refusal " ++ (decimal (number refusal).0 ++ codes ")")))

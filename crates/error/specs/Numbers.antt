@@ -1,4 +1,4 @@
--- The table of refusals: the number of each, with its values. Assumes nothing.
+-- The table of refusals: the number of each, with its values.
 use Rattle.std.specs.Prelude.{◌≡◌, ℕ, List, [], ◌∷◌, Some, None, Ok, Err, Option, Result}
 use Rattle.error.specs.declared.FaultKind.{FaultKind}
 use Rattle.error.specs.declared.FaultKind.TheVariants.{InputIo, InputDecoding}

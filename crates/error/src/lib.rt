@@ -7,12 +7,14 @@ ghost use Rattle.error.specs.Limit.{text_limit};
 ghost use Rattle.error.specs.Numbers.{kind_number, number};
 ghost use Rattle.error.specs.Messages.{kind_words, words, message};
 
+use std::error::Error;
 use std::fmt;
 
 /// A place in a text or a source: so many bytes or characters from its start.
 pub type Place = u16;
 
-const TEXT_LIMIT: usize = 65_535;
+/// The most bytes of a text: a place in it, the one after its last byte too, is a `Place`.
+pub const TEXT_LIMIT: usize = 65_535;
 
 /// Whether so many bytes are more than a text may have.
 pub fn is_too_long(bytes: usize) -> bool
@@ -143,3 +145,6 @@ impl fmt::Display for Refusal {
         }
     }
 }
+
+/// So a program takes it by `?`, as any other error.
+impl Error for Refusal {}

@@ -7,20 +7,19 @@ use char_traits::is_breakz;
 use checklist::both::{Unread, both_count_line_ends, both_find_start, both_leave_hash, read_both};
 use checklist::pulls::{codes_of, pull_all_over};
 use checklist::readings::read_out;
-use checklist::scans::{inserted, setpoint_end};
+use checklist::scans::{insert_at, setpoint_end};
 use error::{Refusal, is_too_long};
 use listing::{drawn_line, split_line};
 use program::CONE_SIX;
+use source::CODE_LIMIT;
 use std::alloc::{AllocError, Global};
 use std::process::ExitCode;
 use std::{env, fs, io};
-use str_input::text::StrInput;
+use str_input::StrInput;
 
 const BUILT_IN: &str = "cone six (built in)";
 
-/// The most codes that a cable takes, and about how many pulls a long program gets.
-const MOST_CODES: usize = 16_383;
-
+/// About how many pulls a long program gets: it is read anew for each, and still checked in a moment.
 const MOST_PULLS: usize = 600;
 
 /// What line C adds to the program: a marker on a line of its own, and a comment.
@@ -117,7 +116,7 @@ fn check_sides(rt: &HostRuntime, compared: &Compared) -> Result<bool, Stop> {
 /// Line B: the cable is pulled all over the program, and each pull is told with its place.
 fn check_pulls(rt: &HostRuntime, chars: &[char]) -> Result<bool, Stop> {
     let heap = rt.alloc();
-    let codes = codes_of(heap, chars, MOST_CODES)?;
+    let codes = codes_of(heap, chars, CODE_LIMIT)?;
     let every = codes.len() / MOST_PULLS + 1;
     let pulls = pull_all_over(heap, codes.as_slice(), every)?;
     let made = pulls.made;
@@ -148,14 +147,14 @@ fn line_ends_in(chars: &[char]) -> usize {
 /// Line C: a marker as the last three bytes is found, a `#` glued to a setpoint is left, and no skip passes a line end.
 fn check_scans(rt: &HostRuntime, bytes: &[u8], chars: &[char]) -> Result<bool, Stop> {
     let heap = rt.alloc();
-    let marked = inserted(heap, bytes, bytes.len(), MARKER)?;
+    let marked = insert_at(heap, bytes, bytes.len(), MARKER)?;
     if is_too_long(marked.len()) {
         println!(rt; "C  --    the program is too long to add to")?;
         return Ok(true);
     }
     let start = both_find_start(marked.as_slice(), chars.len().saturating_add(1))?;
     let place = setpoint_end(bytes);
-    let glued = inserted(heap, bytes, place, COMMENT)?;
+    let glued = insert_at(heap, bytes, place, COMMENT)?;
     let before = characters_in(heap, &bytes[..place.min(bytes.len())])?;
     let left = both_leave_hash(glued.as_slice(), before)?;
     let ends = line_ends_in(chars);

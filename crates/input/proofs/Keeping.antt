@@ -1,7 +1,7 @@
--- One call after another. Assumes nothing.
+-- One call after another.
 use Rattle.std.proofs.Common.{◌≡◌, ℕ, ◌≤◌, Bool, true, false, ◌||◌, ltb, List, [], ◌∷◌, length, sym, refl, ap, ◌∙◌, arith, ltb-true, lt-ltb, le-ltb}
 use Rattle.std.proofs.lemmas.Bool.{both_ways}
-use Rattle.input.specs.View.{View, Manner, Sound, Look, exactly, Keeps}
+use Rattle.input.specs.View.{View, Manner, IsSound, Look, exactly, Keeps}
 use Rattle.input.specs.Calls.{none_left}
 
 pub never : false ≡ true → ⊥
@@ -14,7 +14,7 @@ pub steady_of : (m n : Manner) → n ≡ m → m.steady ≡ true → n.steady �
 steady_of m n e p = ap (λ (x : Manner). x.steady) e ∙ p
 
 -- an input that stands still keeps what every call keeps
-pub still : {H : Type 0} (v : View H) → Sound v → Keeps false (exactly 0) v v
+pub still : {H : Type 0} (v : View H) → IsSound v → Keeps false (exactly 0) v v
 still v s =
     record {
       manner = refl;

@@ -1,9 +1,9 @@
--- A document marker is told by four characters. Assumes nothing.
+-- A document marker is told by four characters.
 use Rattle.std.proofs.Common.{◌≡◌, ℕ, ◌<◌, ◌≤◌, Bool, true, false, cond, ◌&&◌, eqb, List, get_or, Some, None, Option, refl, ap, ◌∙◌, arith}
 use Rattle.char_traits.specs.Chars.{blank_or_breakz}
 use Rattle.input.specs.declared.Marker.{Marker}
 use Rattle.input.specs.declared.Marker.TheVariants.{Start, End}
-use Rattle.input.specs.Tests.{flag, seen, marker_in, Shown, Marks, is_marker}
+use Rattle.input.specs.Tests.{flag, in_window, marker_in, Shown, Marks, is_marker}
 
 marker_by : ℕ → ℕ → ℕ → ℕ → Option Marker
 marker_by a b c d =
@@ -29,7 +29,7 @@ pub marker_told : (which : Option Marker → Bool) (window : ℕ) (s : Shown) (a
     → (0, flag is) ≡ is_marker which s → is ≡ which (marker_in ahead)
 marker_told which window s ahead is wide same marks e = go s.marker marks e
   where
-    go : (r : Option (Option Marker)) → Marks window s.at r → (0, flag is) ≡ seen (λ m. flag (which m)) r → is ≡ which (marker_in ahead)
+    go : (r : Option (Option Marker)) → Marks window s.at r → (0, flag is) ≡ in_window (λ m. flag (which m)) r → is ≡ which (marker_in ahead)
     go None h e = absurd (omega arith)
     go (Some m) h e =
         flag_same is (which m) (ap (λ (a : ℕ × List ℕ). a.1) e) ∙ ap which (h wide ∙ marker_same s.at ahead same)
@@ -38,6 +38,6 @@ marker_told which window s ahead is wide same marks e = go s.marker marks e
 pub marker_seen : (which : Option Marker → Bool) (window : ℕ) (s : Shown) → 4 ≤ window → Marks window s.at s.marker → is_marker which s ≡ (0, flag (which (marker_in s.at)))
 marker_seen which window s wide marks = go s.marker marks
   where
-    go : (r : Option (Option Marker)) → Marks window s.at r → seen (λ m. flag (which m)) r ≡ (0, flag (which (marker_in s.at)))
+    go : (r : Option (Option Marker)) → Marks window s.at r → in_window (λ m. flag (which m)) r ≡ (0, flag (which (marker_in s.at)))
     go None h = absurd (omega arith)
     go (Some m) h = ap (λ x. (0, flag (which x))) (h wide)

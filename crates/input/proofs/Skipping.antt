@@ -1,8 +1,8 @@
--- A skip one character after another, each looked for, up to the end. Assumes nothing.
+-- A skip one character after another, each looked for, up to the end.
 use Rattle.std.proofs.Common.{◌≡◌, ℕ, ◌+◌, ◌-◌, ◌<◌, ◌≤◌, Bool, true, false, ◌||◌, ltb, List, [], ◌∷◌, length, drop, is_some, Option, sym, refl, ap, ◌∙◌, subst, arith, lt-ltb, le-ltb, length-drop, drop_of_length-le, drop-drop}
 use Rattle.std.proofs.Math.Decide.{dec_lt}
-use Rattle.input.specs.View.{View, Sound, Look, exactly, Keeps}
-use Rattle.input.specs.Calls.{none_left, first_of, Takes, Skips}
+use Rattle.input.specs.View.{View, IsSound, Look, exactly, Keeps}
+use Rattle.input.specs.Calls.{none_left, first_of, TakesNext, Skips}
 use Rattle.input.proofs.Keeping.{never, prompt_of, steady_of, still, both}
 
 or_true : (b : Bool) → true ≡ b || true
@@ -41,7 +41,7 @@ module _ {H : Type 0} where
   finding b c v w e k = subst (λ (f : Bool). Keeps f (exactly 0) v w) e k
 
   -- one more is taken, if one is ahead
-  skips_more : (done : ℕ) (v u w : View H) (r : Option ℕ) → Skips done v u → Takes r u w → Skips (done + 1) v w
+  skips_more : (done : ℕ) (v u w : View H) (r : Option ℕ) → Skips done v u → TakesNext r u w → Skips (done + 1) v w
   skips_more done v u w r s t =
       let len : length u.ahead ≡ length v.ahead - done = ap length s.ahead ∙ length-drop done v.ahead in
       let fewer : length w.ahead ≤ length u.ahead = omega (arith, ap length t.ahead ∙ length-drop 1 u.ahead) in
@@ -60,20 +60,20 @@ module _ {H : Type 0} where
       }
 
   -- of so many, so many are left
-  pub skips_left : (count left : ℕ) (v u w : View H) (r : Option ℕ) → left ≤ count → 0 < left → Skips (count - left) v u → Takes r u w
+  pub skips_left : (count left : ℕ) (v u w : View H) (r : Option ℕ) → left ≤ count → 0 < left → Skips (count - left) v u → TakesNext r u w
       → Skips (count - (left - 1)) v w
   skips_left count left v u w r few some s t =
       let one : (count - left) + 1 ≡ count - (left - 1) = omega arith in
       subst (λ (n : ℕ). Skips n v w) one (skips_more (count - left) v u w r s t)
 
-  pub skips_none : (count : ℕ) (v : View H) → Sound v → Skips (count - count) v v
+  pub skips_none : (count : ℕ) (v : View H) → IsSound v → Skips (count - count) v v
   skips_none count v sound =
       let none : 0 ≡ count - count = omega arith in
       let start : Skips 0 v v = record { keeps = finding _ _ v v (sym (le-ltb _ _ (omega arith))) (still v sound); told = refl; ahead = refl } in
       subst (λ (n : ℕ). Skips n v v) none start
 
   -- none was ahead, however many were left
-  pub skips_end : (count left : ℕ) (v u w : View H) (r : Option ℕ) → left ≤ count → 0 < left → Skips (count - left) v u → Takes r u w → is_some r ≡ false
+  pub skips_end : (count left : ℕ) (v u w : View H) (r : Option ℕ) → left ≤ count → 0 < left → Skips (count - left) v u → TakesNext r u w → is_some r ≡ false
       → Skips count v w
   skips_end count left v u w r few some s t none =
       let len : length u.ahead ≡ length v.ahead - (count - left) = ap length s.ahead ∙ length-drop (count - left) v.ahead in

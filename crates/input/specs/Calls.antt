@@ -1,4 +1,4 @@
--- What each call of an input means: the input before it, v, its answer, and the input after it, w. Assumes nothing.
+-- What each call of an input means: the input before it, v, its answer, and the input after it, w.
 use Rattle.std.specs.Prelude.{◌≡◌, ℕ, ◌≤◌, min, Bool, true, false, cond, not, ◌&&◌, ◌||◌, List, [], ◌∷◌, length, drop, is_some, Ok, Err, Some, None, Option, nat_lt, slice_index}
 use Rattle.error.specs.Numbers.{Ending, fault_number, fault_of}
 use Rattle.error.specs.declared.Fault.{Fault}
@@ -37,8 +37,8 @@ pub record Reads {H : Type 0} (c : ℕ) (v w : View H) : Type 0 where
   pub ahead : w.ahead ≡ drop 1 v.ahead
   pub character : c ≡ slice_index v.ahead 0
 
--- the same, told by an option
-pub record Takes {H : Type 0} (r : Option ℕ) (v w : View H) : Type 0 where
+-- the first character is taken, and told by an option
+pub record TakesNext {H : Type 0} (r : Option ℕ) (v w : View H) : Type 0 where
   pub keeps : Keeps (none_left v.ahead) (exactly 0) v w
   pub told : w.told ≡ v.told
   pub ahead : w.ahead ≡ drop 1 v.ahead
@@ -56,7 +56,7 @@ pub record Skips {H : Type 0} (n : ℕ) (v w : View H) : Type 0 where
   pub ahead : w.ahead ≡ drop n v.ahead
 
 -- the next character is told, and stays ahead; the window stays as it was
-pub record Tells {H : Type 0} (r : Option ℕ) (v w : View H) : Type 0 where
+pub record PeeksNext {H : Type 0} (r : Option ℕ) (v w : View H) : Type 0 where
   pub keeps : Keeps (none_left v.ahead) (exactly 0) v w
   pub told : w.told ≡ v.told
   pub ahead : w.ahead ≡ v.ahead
@@ -64,17 +64,17 @@ pub record Tells {H : Type 0} (r : Option ℕ) (v w : View H) : Type 0 where
   pub next : r ≡ first_of v.ahead
 
 -- the fault, if it is met and untold; what was given is told from then on
-pub record Asks {H : Type 0} (r : Option Fault) (v w : View H) : Type 0 where
+pub record TakesFault {H : Type 0} (r : Option Fault) (v w : View H) : Type 0 where
   pub keeps : Keeps false (exactly 0) v w
   pub ahead : w.ahead ≡ v.ahead
   pub fault : r ≡ cond (v.met && not v.told) (fault_of v.ending) None
   pub told : w.told ≡ (v.told || is_some r)
 
 -- the number of each answer to a closing, with its values
-abbrev pub closed : Closing → ℕ × List ℕ
-closed Whole = (0, [])
-closed Left = (1, [])
-closed (Failed fault) = fault_number fault
+abbrev pub closing_number : Closing → ℕ × List ℕ
+closing_number Whole = (0, [])
+closing_number Left = (1, [])
+closing_number (Failed fault) = fault_number fault
 
 -- left if characters are ahead, else failed at a fault, else whole
 abbrev pub closing_at : Ending → Closing
@@ -87,7 +87,7 @@ closing_of ahead ending = cond (none_left ahead) (closing_at ending) Left
 -- closing asks for lookahead 1, and is no asking
 pub record Closes {H : Type 0} (r : Closing) (v w : View H) : Type 0 where
   pub looks : Looks 1 v w
-  pub closing : closed r ≡ closed (closing_of v.ahead v.ending)
+  pub closing : closing_number r ≡ closing_number (closing_of v.ahead v.ending)
 
 -- a reading that may be open is closed if it is; else nothing changes
 abbrev pub ClosesHeld : {H : Type 0} → Option Closing → View H → View H → Type 0

@@ -1,4 +1,4 @@
--- What an input shows, and what its tests tell of it. Assumes nothing.
+-- What an input shows, and what its tests tell of it.
 use Rattle.std.specs.Prelude.{◌≡◌, ℕ, suc, ◌<◌, ◌≤◌, Bool, true, false, cond, not, ◌&&◌, ◌||◌, List, [], ◌∷◌, length, Some, None, Option, ◌==◌, slice_index}
 use Rattle.std.proofs.Math.Utf8.{scalar, scalars}
 use Rattle.char_traits.specs.Chars.{blank_or_breakz, flow}
@@ -19,9 +19,9 @@ mark (Some Start) = 1 ∷ []
 mark (Some End) = 2 ∷ []
 
 -- the characters wanted are those that are shown
-abbrev pub found : (ℕ → ℕ) → List ℕ → Bool
-found shown [] = true
-found shown (c ∷ cs) = shown 0 == c && found (λ n. shown (suc n)) cs
+abbrev pub are_shown : (ℕ → ℕ) → List ℕ → Bool
+are_shown shown [] = true
+are_shown shown (c ∷ cs) = shown 0 == c && are_shown (λ n. shown (suc n)) cs
 
 abbrev pub without_nul : List ℕ → Bool
 without_nul [] = true
@@ -32,7 +32,9 @@ abbrev pub thrice : ℕ → (ℕ → ℕ) → Bool
 thrice c shown = shown 0 == c && (shown 1 == c && shown 2 == c)
 
 abbrev pub marker_in : (ℕ → ℕ) → Option Marker
-marker_in shown = cond (blank_or_breakz (shown 3)) (cond (thrice 0x2D shown) (Some Start) (cond (thrice 0x2E shown) (Some End) None)) None
+marker_in shown =
+    cond (blank_or_breakz (shown 3))
+    (cond (thrice 0x2D shown) (Some Start) (cond (thrice 0x2E shown) (Some End) None)) None
 
 -- WHAT A STATE SHOWS
 
@@ -47,14 +49,15 @@ pub record Shown : Type 0 where
 -- Refused only below the window that is wanted. Within it the answer is by what is shown, but where a NUL is wanted each kind's own.
 abbrev pub Matches : List ℕ → ℕ → (ℕ → ℕ) → Option Bool → Type 0
 Matches wanted window shown None = window < length wanted
-Matches wanted window shown (Some is) = length wanted ≤ window → without_nul wanted ≡ true → is ≡ found shown wanted
+Matches wanted window shown (Some is) =
+    length wanted ≤ window → without_nul wanted ≡ true → is ≡ are_shown shown wanted
 
 abbrev pub Marks : ℕ → (ℕ → ℕ) → Option (Option Marker) → Type 0
 Marks window shown None = window < 4
 Marks window shown (Some marker) = 4 ≤ window → marker ≡ marker_in shown
 
 -- within its window an input tells what is ahead, and NUL at the end; beyond it, as it likes
-pub record Faithful {H : Type 0} (s : Shown) (v : View H) : Type 0 where
+pub record IsFaithful {H : Type 0} (s : Shown) (v : View H) : Type 0 where
   pub at : (n : ℕ) → n < v.window → s.at n ≡ slice_index v.ahead n
   pub at_end : 0 < v.window → s.at_end ≡ none_left v.ahead
   pub matches : (wanted : List ℕ) → Matches wanted v.window s.at (s.matches wanted)
@@ -63,21 +66,21 @@ pub record Faithful {H : Type 0} (s : Shown) (v : View H) : Type 0 where
 -- WHAT A TEST TELLS, by the number and the values of its answer
 
 -- 4 for a window that is too narrow
-abbrev pub seen : {T : Type 0} → (T → List ℕ) → Option T → ℕ × List ℕ
-seen values None = (4, [])
-seen values (Some x) = (0, values x)
+abbrev pub in_window : {T : Type 0} → (T → List ℕ) → Option T → ℕ × List ℕ
+in_window values None = (4, [])
+in_window values (Some x) = (0, values x)
 
 -- a number that is a character, or refused 3
-abbrev pub numbered : ℕ → ℕ × List ℕ
-numbered code = cond (scalar code) (0, code ∷ []) (3, [])
+abbrev pub character_number : ℕ → ℕ × List ℕ
+character_number code = cond (scalar code) (0, code ∷ []) (3, [])
 
 -- a character that is shown is held against a number: refused 3 if that is no character
-abbrev pub compared : ℕ → ℕ → ℕ × List ℕ
-compared code shown = cond (scalar code) (0, flag (shown == code)) (3, [])
+abbrev pub compare_number : ℕ → ℕ → ℕ × List ℕ
+compare_number code shown = cond (scalar code) (0, flag (shown == code)) (3, [])
 
 -- the next characters are held against numbers: refused 3 if one is no character, before the window is asked for
-abbrev pub compared_all : List ℕ → Shown → ℕ × List ℕ
-compared_all codes s = cond (scalars codes) (seen flag (s.matches codes)) (3, [])
+abbrev pub compare_all_number : List ℕ → Shown → ℕ × List ℕ
+compare_all_number codes s = cond (scalars codes) (in_window flag (s.matches codes)) (3, [])
 
 abbrev pub any_marker : Option Marker → Bool
 any_marker None = false
@@ -95,11 +98,12 @@ end_marker (Some End) = true
 
 -- whether the marker that is next is one of these
 abbrev pub is_marker : (Option Marker → Bool) → Shown → ℕ × List ℕ
-is_marker which s = seen (λ m. flag (which m)) s.marker
+is_marker which s = in_window (λ m. flag (which m)) s.marker
 
 -- a : that ends a plain run: a blank, a breakz, the end or, in flow, a flow character follows
 abbrev pub colon_stops : Bool → (ℕ → ℕ) → Bool
-colon_stops in_flow shown = shown 0 == 0x3A && (blank_or_breakz (shown 1) || (in_flow && flow (shown 1)))
+colon_stops in_flow shown =
+    shown 0 == 0x3A && (blank_or_breakz (shown 1) || (in_flow && flow (shown 1)))
 
 abbrev pub plain_goes_on : Bool → (ℕ → ℕ) → Bool
 plain_goes_on in_flow shown = not (colon_stops in_flow shown || (in_flow && flow (shown 0)))

@@ -1,4 +1,4 @@
--- What an input means to whoever reads it. Assumes nothing.
+-- What an input means to whoever reads it.
 use Rattle.std.specs.Prelude.{◌≡◌, ℕ, ◌+◌, ◌<◌, ◌≤◌, min, max, Bool, true, false, ◌||◌, List, length, nat_lt}
 use Rattle.std.proofs.Math.Utf8.{encodes, scalars}
 use Rattle.error.specs.Limit.{text_limit}
@@ -24,7 +24,7 @@ pub record View (H : Type 0) : Type 0 where
   pub held : H
 
 -- what holds of every value: a ring may hold sixteen characters of four bytes beside what its source has
-pub record Sound {H : Type 0} (v : View H) : Type 0 where
+pub record IsSound {H : Type 0} (v : View H) : Type 0 where
   pub characters : scalars v.ahead ≡ true
   pub short : length (encodes v.ahead) ≤ text_limit + 64
   pub waits : length v.ahead < v.window → v.met ≡ true
@@ -52,7 +52,7 @@ pub record Keeps {H : Type 0} (finds : Bool) (look : Look) (v w : View H) : Type
   pub late : v.manner.prompt ≡ true → w.met ≡ (v.met || (finds || nat_lt (length w.ahead) w.window))
 
 -- an input as its maker hands it out
-pub record New {H : Type 0} (v : View H) : Type 0 where
+pub record IsNew {H : Type 0} (v : View H) : Type 0 where
   pub short : length (encodes v.ahead) ≤ text_limit
   pub untold : v.told ≡ false
   pub closed : v.manner.prompt ≡ true → v.window ≡ 0
@@ -66,8 +66,8 @@ pub record Making : Type 0 where
   pub given : ℕ
 
 -- a new one that is made of it
-pub record Fresh {H : Type 0} (of : Making) (v : View H) : Type 0 where
-  pub new : New v
+pub record IsFresh {H : Type 0} (of : Making) (v : View H) : Type 0 where
+  pub new : IsNew v
   pub manner : v.manner ≡ of.manner
   pub all : v.ahead ≡ of.chars
   pub finish : v.ending ≡ of.finish

@@ -11,5 +11,6 @@ pub trait BorrowedInput<'a>: Input {
 
     /// A part of the original text, by bytes, if it has that part.
     fn slice_borrowed(&self, start: usize, end: usize) -> Option<&'a [u8]>
-        ensures { MatchOption result (Lends self.now start end None) (λ part. Lends self.now start end (Some part.now)) };
+        ensures { MatchOption result (Lends self.now start end None)
+            (λ part. Lends self.now start end (Some part.now)) };
 }

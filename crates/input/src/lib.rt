@@ -1,18 +1,19 @@
 //! What a scanner reads from.
 #![tactic(auto)]
 
-ghost use Rattle.std.specs.Prelude.{◌≡◌, ℕ, ◌≤◌, min, true, if◌then◌else◌, None};
+ghost use Rattle.std.specs.Prelude.{◌≡◌, ℕ, ◌≤◌, min, true, if◌then◌else◌, Some, None};
 ghost use Rattle.error.specs.Numbers.{fault_of, outcome};
-ghost use Rattle.input.specs.View.{View, Sound};
-ghost use Rattle.input.specs.Calls.{Looks, Reads, ReadsInLine, Skips, Tells, Asks};
-ghost use Rattle.input.specs.Tests.{flag, mark, Shown, Faithful, seen};
+ghost use Rattle.input.specs.View.{View, IsSound};
+ghost use Rattle.input.specs.Calls.{Looks, Reads, ReadsInLine, Skips, PeeksNext, TakesFault};
+ghost use Rattle.input.specs.Tests.{flag, mark, Shown, IsFaithful, in_window};
 
-use error::{Fault, Refusal};
+use error::{Ending, Fault, Refusal};
 
 pub mod borrowed;
 pub mod calls;
 pub mod made;
 pub mod shows;
+pub mod stepped;
 pub mod ticket;
 
 /// The end of a reading.
@@ -36,20 +37,32 @@ pub enum Marker {
 }
 
 /// An input. Its meaning is its view; what it shows beyond its window is each kind's own.
+///
+/// A kind of input says by the ghost members what its values mean. Each call then owes what its
+/// clauses say of the view before it and after it.
 pub trait Input {
-    // what it holds below it, for a ring its source
+    /// The type of what it holds below it, for a ring its source: once the ending is met, no call
+    /// changes its value. `Unit`, if it holds nothing that one would ask about.
     ghost Held: { Type 0 } = { Unit {0} };
 
+    /// What a value means: the characters ahead, the window, the ending, whether that is met and
+    /// told, the manner, and what is held.
     ghost view: { Self → View Held };
-    // what it answers to peeks and tests
+
+    /// What its peeks and tests answer, at every place and window.
     ghost shown: { Self → Shown };
-    // the window that a lookahead can always have
+
+    /// The window that a lookahead can always have.
     ghost most: { Self → ℕ };
 
-    ghost sound: { (x : Self) → Sound (view x) };
+    /// A law: what is ahead are characters, and no more than a text may have, beside 16 that are
+    /// held; where less is ahead than the window, the ending is met.
+    ghost sound: { (x : Self) → IsSound (view x) };
 
-    ghost faithful: { (x : Self) → Faithful (shown x) (view x) };
+    /// A law: within the window it shows what is ahead, with NUL past the end.
+    ghost faithful: { (x : Self) → IsFaithful (shown x) (view x) };
 
+    /// A law: a window of 16 can always be had.
     ghost wide: { (x : Self) → 16 ≤ most x };
 
     /// Raises the window to the count, as far as it goes. What is ahead stays.
@@ -83,7 +96,7 @@ pub trait Input {
 
     /// The next character, or none at the end. It stays ahead, and the window as it was.
     fn next_ch(&mut self) -> Option<char>
-        ensures { Tells result (view self.old) (view self.new) };
+        ensures { PeeksNext result (view self.old) (view self.new) };
 
     /// The character that is shown at a place: within the window the one ahead, or NUL if there is none.
     fn peek_nth(&self, n: usize) -> char
@@ -95,17 +108,24 @@ pub trait Input {
 
     /// Whether the next characters are those wanted. Refusal 4 only below a window of that many.
     fn next_are(&self, wanted: &[char]) -> Result<bool, Refusal>
-        ensures { outcome flag result ≡ seen flag ((shown self.now).matches wanted.now) };
+        ensures { outcome flag result ≡ in_window flag ((shown self.now).matches wanted.now) };
 
     /// The document marker that is next, if one is. Refusal 4 only below a window of 4.
     fn next_marker(&self) -> Result<Option<Marker>, Refusal>
-        ensures { outcome mark result ≡ seen mark (shown self.now).marker };
+        ensures { outcome mark result ≡ in_window mark (shown self.now).marker };
 
     /// The fault, if the ending is met and its fault was not told yet.
     fn take_source_error(&mut self) -> Option<Fault>
-        ensures { Asks result (view self.old) (view self.new) };
+        ensures { TakesFault result (view self.old) (view self.new) };
+
+    /// The ending, once it is met.
+    fn met_ending(&self) -> Option<Ending>
+        ensures { result ≡ (if (view self.now).met then Some (view self.now).ending else None) };
 
     /// The fault of an ending that is met, told before or not.
     fn met_fault(&self) -> Option<Fault>
-        ensures { result ≡ (if (view self.now).met then fault_of (view self.now).ending else None) };
+        ensures { result ≡ (if (view self.now).met then fault_of (view self.now).ending else None) }
+    {
+        self.met_ending()?.err()
+    }
 }

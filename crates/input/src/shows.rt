@@ -1,7 +1,7 @@
 //! What an input holds, as it shows it.
 
 ghost use Rattle.std.specs.Prelude.{◌≡◌, ℕ};
-ghost use Rattle.input.specs.Tests.{found, thrice, marker_in};
+ghost use Rattle.input.specs.Tests.{are_shown, thrice, marker_in};
 
 use crate::Marker;
 use char_traits::is_blank_or_breakz;
@@ -15,7 +15,7 @@ pub trait Shows {
 
     /// Whether the characters from the first on are those wanted, with NUL past the last.
     fn begins_with(&self, wanted: &[char]) -> bool
-        ensures { result ≡ found (shown self.now) wanted.now }
+        ensures { result ≡ are_shown (shown self.now) wanted.now }
     {
         for (n, c) in wanted.iter().enumerate() {
             if self.at(n) != *c {

@@ -20,22 +20,22 @@ impl Reading {
 
     /// Asks for lookahead 1, and tells how the reading ended.
     pub fn close<I: Input>(self, input: &mut I) -> Closing
-        ensures { Closes result (I.Input.view input.old) (I.Input.view input.new) }
+        ensures { Closes result (I.view input.old) (I.view input.new) }
     {
         let Reading { opened: () } = self;
         input.lookahead(1);
         if !input.next_is_z() {
             return Closing::Left;
         }
-        match input.met_fault() {
-            Some(fault) => Closing::Failed(fault),
-            None => Closing::Whole,
+        match input.met_ending() {
+            Some(Err(fault)) => Closing::Failed(fault),
+            _ => Closing::Whole,
         }
     }
 
     /// Closes the reading that is open, if one is.
     pub fn close_held<I: Input>(held: Option<Reading>, input: &mut I) -> Option<Closing>
-        ensures closes { ClosesHeld result (I.Input.view input.old) (I.Input.view input.new) }
+        ensures closes { ClosesHeld result (I.view input.old) (I.view input.new) }
         ensures held { is_some result ≡ is_some held }
     {
         match held {
@@ -46,7 +46,7 @@ impl Reading {
 
     /// Closes the reading that is open; where none is, one is opened for it.
     pub fn close_opened<I: Input>(held: Option<Reading>, input: &mut I) -> Closing
-        ensures { Closes result (I.Input.view input.old) (I.Input.view input.new) }
+        ensures { Closes result (I.view input.old) (I.view input.new) }
     {
         held.unwrap_or_else(|| Reading::open(input)).close(input)
     }

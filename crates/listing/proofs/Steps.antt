@@ -1,4 +1,4 @@
--- One character more of what was read, and of what is drawn. Assumes nothing.
+-- One character more of what was read, and of what is drawn.
 use Rattle.std.proofs.Common.{◌≡◌, ℕ, zero, suc, ◌+◌, ◌<◌, ◌≤◌, Bool, true, false, not, List, [], ◌∷◌, ◌++◌, map, length, length-drop, get_or, take, drop, sym, refl, ap, ◌∙◌, ap₂, arith, append-nil}
 use lib.Utf8.{encode, encodes}
 use Rattle.std.proofs.lemmas.List.{map-append, take_more}
@@ -7,17 +7,17 @@ use Rattle.std.proofs.lemmas.Str.{encodes-append}
 use Rattle.std.proofs.lemmas.Bool.Decides.{nat_tests}
 use Rattle.char_traits.specs.Chars.{line_break}
 use Rattle.std.specs.List.{prefix_len}
-use Rattle.listing.specs.Lines.{break_width, Cuts, drawn}
+use Rattle.listing.specs.Lines.{break_width, Cuts, drawing_of}
 
 encodes_push : (cs : List ℕ) (c : ℕ) → encodes (cs ++ (c ∷ [])) ≡ encodes cs ++ encode c
 encodes_push cs c = encodes-append cs (c ∷ []) ∙ ap (λ r. encodes cs ++ r) (append-nil (encode c))
 
-pub drawn_more : (line old new : List ℕ) (i c : ℕ) → i < length line → c ≡ drawn (get_or line i 0) → new ≡ old ++ encode c
-    → old ≡ encodes (map drawn (take i line)) → new ≡ encodes (map drawn (take (i + 1) line))
+pub drawn_more : (line old new : List ℕ) (i c : ℕ) → i < length line → c ≡ drawing_of (get_or line i 0) → new ≡ old ++ encode c
+    → old ≡ encodes (map drawing_of (take i line)) → new ≡ encodes (map drawing_of (take (i + 1) line))
 drawn_more line old new i c h d p e =
-    p ∙ ap₂ (λ x y. x ++ encode y) e d ∙ sym (encodes_push (map drawn (take i line)) (drawn (get_or line i 0)))
-    ∙ ap encodes (sym (map-append drawn (take i line) (get_or line i 0 ∷ [])))
-    ∙ ap (λ xs. encodes (map drawn xs)) (sym (take_more line i 0 h))
+    p ∙ ap₂ (λ x y. x ++ encode y) e d ∙ sym (encodes_push (map drawing_of (take i line)) (drawing_of (get_or line i 0)))
+    ∙ ap encodes (sym (map-append drawing_of (take i line) (get_or line i 0 ∷ [])))
+    ∙ ap (λ xs. encodes (map drawing_of xs)) (sym (take_more line i 0 h))
 
 -- a break has a width
 break_moves : (xs : List ℕ) → 0 < length xs → line_break (get_or xs 0 0) ≡ true → 0 < break_width xs

@@ -1,4 +1,4 @@
--- The lines of a text. Assumes nothing.
+-- The lines of a text.
 use Rattle.std.specs.Prelude.{◌≡◌, ℕ, ◌+◌, ◌<◌, ◌≤◌, true, false, cond, ◌&&◌, List, [], ◌∷◌, length, take, drop, ◌==◌, slice_index}
 use Rattle.char_traits.specs.Chars.{line_break, printable}
 
@@ -25,5 +25,5 @@ pub record Splits (chars line rest : List ℕ) : Type 0 where
   pub rest_is : rest ≡ drop whole chars
 
 -- what a panel may draw: a printable character as it is, any other as the replacement character
-abbrev pub drawn : ℕ → ℕ
-drawn c = cond (printable c) c 0xFFFD
+abbrev pub drawing_of : ℕ → ℕ
+drawing_of c = cond (printable c) c 0xFFFD

@@ -5,7 +5,7 @@ ghost use Rattle.std.specs.Prelude.{◌≡◌, ◌≤◌, length, map, IfOk, str
 ghost use Rattle.std.specs.List.{position_or_len};
 ghost use Rattle.std.proofs.Math.Utf8.{encodes};
 ghost use Rattle.char_traits.specs.Chars.{line_break};
-ghost use Rattle.listing.specs.Lines.{break_width, Cuts, Splits, drawn};
+ghost use Rattle.listing.specs.Lines.{break_width, Cuts, Splits, drawing_of};
 
 use char_traits::{is_break, is_printable};
 use std::alloc::{AllocError, Global};
@@ -55,14 +55,14 @@ pub fn split_line(chars: &[char]) -> (&[char], &[char])
 }
 
 fn drawn_char(c: char) -> char
-    ensures { result ≡ drawn c }
+    ensures { result ≡ drawing_of c }
 {
     if is_printable(c) { c } else { '\u{FFFD}' }
 }
 
 /// A line as a panel may draw it.
 pub fn drawn_line(heap: Global, line: &[char]) -> Result<String, AllocError>
-    ensures { IfOk result (λ s. string_bytes s ≡ encodes (map drawn line.now)) }
+    ensures { IfOk result (λ s. string_bytes s ≡ encodes (map drawing_of line.now)) }
 {
     let mut s = String::new(heap);
     for c in line {

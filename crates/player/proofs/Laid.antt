@@ -1,24 +1,33 @@
--- What a fetch leaves of a room. Assumes nothing.
-use Rattle.std.proofs.Common.{◌≡◌, ℕ, ◌+◌, ◌-◌, ◌<◌, ◌≤◌, max, Bool, List, [], ◌∷◌, ◌++◌, length, take, drop, Option, replicate, sym, ap, subst, ◌∙◌, append_assoc, arith, slice_index, ext_get_or, length-append, take-append-drop, take_at}
+-- What a fetch leaves of a room.
+use Rattle.std.proofs.Common.{zero, suc, refl, ◌≡◌, ℕ, ◌+◌, ◌-◌, ◌<◌, ◌≤◌, max, true, List, [], ◌∷◌, ◌++◌, length, take, drop, replicate, sym, ap, subst, ◌∙◌, append_assoc, arith, slice_index, slice_range, ext_get_or, length-append, take-append-drop, take_at}
 use Rattle.std.proofs.lemmas.List.{drop_at, length-take-le, length-replicate, get_or-replicate, take-replicate, drop-replicate}
 use Rattle.std.proofs.lemmas.Bool.{cond_both}
 use Rattle.std.proofs.Math.Utf8.{encodes}
-use Rattle.utf8.specs.Room.{laid}
-use Rattle.input.specs.View.{View, Look}
+use Rattle.utf8.specs.Room.{overlay}
+use Rattle.utf8.proofs.Rooms.{laid_none}
+use Rattle.input.specs.View.{View}
+use Rattle.input.specs.Tests.{Shown}
+use Rattle.input.proofs.Keeping.{never}
 use Rattle.runs.specs.declared.Fetched.{Fetched}
-use Rattle.runs.specs.Rooms.{fitting, beyond, part}
-use Rattle.runs.specs.Scans.{Fetches}
+use Rattle.runs.specs.Rooms.{front_that_fits, beyond, part}
+use Rattle.runs.specs.Scans.{Writes}
+use Rattle.runs.proofs.Fronts.{prefix_taken}
 use Rattle.runs.proofs.Longest.{fitting_longest}
-use Rattle.runs.proofs.Laying.{laid_length, laid_none}
-use Rattle.protocol.specs.declared.command.Fetch.{Fetch}
+use Rattle.runs.proofs.Laying.{laid_length}
+use Rattle.calls.specs.declared.call.Answer.{Answer}
+use Rattle.calls.specs.declared.call.Call.{Call}
+use Rattle.calls.specs.declared.call.NoClass.{NoClass}
+use Rattle.calls.specs.declared.call.ScanCall.{ScanCall}
+use Rattle.calls.specs.Entries.{Means, filled_after}
+use Rattle.calls.specs.Kinds.{kind_of}
 use Rattle.player.specs.Untouched.{untouched}
 use Rattle.player.specs.Rooms.{Lays}
-use Rattle.player.specs.Meaning.{Fetching}
+use Rattle.player.specs.Plays.{no_member, entry}
 
-fitting_fits : (free : ℕ) (cs : List ℕ) → length (encodes (fitting free cs)) ≤ free
+fitting_fits : (free : ℕ) (cs : List ℕ) → length (encodes (front_that_fits free cs)) ≤ free
 fitting_fits free cs =
     let f = fitting_longest free cs in
-    subst (λ xs. length (encodes xs) ≤ free) (sym f.front) f.holds
+    subst (λ xs. length (encodes xs) ≤ free) (prefix_taken (front_that_fits free cs) cs f.front) f.holds
 
 part_fits : (room : List ℕ) (filled : ℕ) (run : List ℕ) → filled + length (encodes (part room filled run)) ≤ max filled (length room)
 part_fits room filled run =
@@ -26,22 +35,31 @@ part_fits room filled run =
     (λ _. omega arith)
     (λ _. omega (arith, fitting_fits (length room - filled) run))
 
-pub lays : {H : Type 0} (looks : Bool) (look : Look) (run room : List ℕ) (filled : ℕ) (r : Fetched) (left : List ℕ) (v w : View H) → Fetches looks look run room filled r left v w → Lays room filled left r.filled
-lays looks look run room filled r left v w f =
+lays : (run room : List ℕ) (filled : ℕ) (r : Fetched) (left : List ℕ) → Writes run room filled r left → Lays room filled left r.filled
+lays run room filled r left f =
     let fits = part_fits room filled run in
     record { bytes = encodes (part room filled run); lies = f.bytes; fills = f.fills; fits = omega (arith, f.fills) }
 
-pub fetching_lays : {H : Type 0} (fetch : Fetch) (room : List ℕ) (filled : ℕ) (r : Option Bool × Fetched) (left : List ℕ) (v w : View H) → Fetching fetch room filled r left v w → Lays room filled left r.1.filled
-fetching_lays Fetch.Alpha room filled r left v w f = lays _ _ _ room filled r.1 left v w f.1
-fetching_lays Fetch.NonSpace room filled r left v w f = lays _ _ _ room filled r.1 left v w f.1
-fetching_lays Fetch.Line room filled r left v w f = lays _ _ _ room filled r.1 left v w f.1
-fetching_lays (Fetch.Chunk count in_flow) room filled r left v w (stopped, _, f, _) = lays _ _ _ room filled r.1 left v w f.fetches
-fetching_lays (Fetch.Run in_flow) room filled r left v w f = lays _ _ _ room filled r.1 left v w f.1
+pub means_lays : {H : Type 0} (s : Shown) (call : Call NoClass) (room : List ℕ) (filled : ℕ) (a : Answer) (left : List ℕ) (v w : View H) → (kind_of call).fetches ≡ true → Means no_member s call (entry call room filled a left) v w → Lays room filled left (filled_after filled a)
+means_lays s (Call.Scan (ScanCall.FetchRun k)) room filled a left v w is (r, e, f) =
+    subst (λ x. Lays room filled left (filled_after filled x)) (sym e) (lays _ room filled r left f.writes)
+means_lays s (Call.Scan (ScanCall.FetchPlainScalarChunk count in_flow)) room filled a left v w is (r, e, f, _) =
+    subst (λ x. Lays room filled left (filled_after filled x)) (sym e) (lays _ room filled r.1 left f.takes.writes)
+means_lays s call room filled a left v w is m = absurd (never is)
+
+taken_of_none : (n : ℕ) → take {A = ℕ} n [] ≡ []
+taken_of_none zero = refl
+taken_of_none (suc n) = refl
+
+-- where there is no room, nothing is appended
+pub none_appended : (left : List ℕ) (n : ℕ) → length left ≡ 0 → slice_range left 0 n ≡ []
+none_appended [] n e = taken_of_none (n - 0)
+none_appended (b ∷ left) n e = absurd (omega (arith, e))
 
 pub lays_length : (room : List ℕ) (filled : ℕ) (left : List ℕ) (next : ℕ) → Lays room filled left next → length left ≡ length room
 lays_length room filled left next l = ap length l.lies ∙ go l.bytes l.lies l.fills l.fits
   where
-    go : (bytes : List ℕ) → left ≡ laid room filled bytes → next ≡ filled + length bytes → next ≤ max filled (length room) → length (laid room filled bytes) ≡ length room
+    go : (bytes : List ℕ) → left ≡ overlay room filled bytes → next ≡ filled + length bytes → next ≤ max filled (length room) → length (overlay room filled bytes) ≡ length room
     go [] e n h = ap length (laid_none room filled)
     go (b ∷ bytes) e n h = laid_length room filled (b ∷ bytes) (omega arith)
 

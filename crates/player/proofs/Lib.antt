@@ -1,3 +1,3 @@
+pub mod Fetching
 pub mod Laid
 pub mod TakenLines
-pub mod Told

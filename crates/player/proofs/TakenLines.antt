@@ -1,9 +1,9 @@
--- What is left of a text after its lines. Assumes nothing.
+-- What is left of a text after its lines.
 use Rattle.std.proofs.Common.{◌≢◌, ℕ, ◌<◌, ◌≤◌, List, [], ◌∷◌, ◌++◌, length, Some, None, refl, sym, ap, ◌∙◌, subst, arith, length-drop}
 use Rattle.std.specs.Borrow.{Bor}
-use Rattle.protocol.specs.Forms.{IsLine}
+use Rattle.protocol.specs.Commands.{IsLine}
 use Rattle.protocol.specs.declared.command.Command.{Command}
-use Rattle.player.specs.Lines.{LineFrom, TakesLine, Passes, Passed, Leaves}
+use Rattle.player.specs.Lines.{LineFrom, TakesLine, Passes, PassesSome, Leaves}
 
 next_inside : (text : List ℕ) (end next : ℕ) → 0 < length text → LineFrom text 0 end next → 0 < next
 next_inside text end next h l = let ends = l.ends in let last = l.last in let inside = l.inside in grind arith
@@ -17,16 +17,16 @@ passes_more text left rest [] line command e taken is other = (rest, subst (λ x
 passes_more text left rest (first ∷ lines) line command (mid, first_taken, says, passes) taken is other =
     (mid, first_taken, says, passes_more mid left rest lines line command passes taken is other)
 
-pub passed_none : (text : List ℕ) → Passed text text
+pub passed_none : (text : List ℕ) → PassesSome text text
 passed_none text = ([], refl)
 
-pub passed_more : (text left rest : List ℕ) (line : Bor (List ℕ)) (command : Command) → Passed text left → TakesLine left (Some line) rest → IsLine line.now command → command ≢ Command.New → Passed text rest
+pub passed_more : (text left rest : List ℕ) (line : Bor (List ℕ)) (command : Command) → PassesSome text left → TakesLine left (Some line) rest → IsLine line.now command → command ≢ Command.New → PassesSome text rest
 passed_more text left rest line command (lines, passes) taken is other = (lines ++ (line ∷ []), passes_more text left rest lines line command passes taken is other)
 
-pub leaves_none : (text left rest : List ℕ) → Passed text left → TakesLine left None rest → Leaves text None rest
-leaves_none text left rest passed (none, e) = (e, subst (λ xs. Passed text xs) (none ∙ sym e) passed)
+pub leaves_none : (text left rest : List ℕ) → PassesSome text left → TakesLine left None rest → Leaves text None rest
+leaves_none text left rest passed (none, e) = (e, subst (λ xs. PassesSome text xs) (none ∙ sym e) passed)
 
-pub leaves_some : (text left rest : List ℕ) (line : Bor (List ℕ)) → Passed text left → TakesLine left (Some line) rest → IsLine line.now Command.New → Leaves text (Some line) rest
+pub leaves_some : (text left rest : List ℕ) (line : Bor (List ℕ)) → PassesSome text left → TakesLine left (Some line) rest → IsLine line.now Command.New → Leaves text (Some line) rest
 leaves_some text left rest line passed taken new = (left, passed, taken, new)
 
 passes_shorter : (text rest : List ℕ) (lines : List (Bor (List ℕ))) → Passes text lines rest → length rest ≤ length text

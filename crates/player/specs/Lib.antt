@@ -1,6 +1,5 @@
-pub mod Classes
+pub mod Predicates
 pub mod Lines
-pub mod Meaning
 pub mod Untouched
 pub mod Rooms
 pub mod Plays

@@ -1,44 +1,67 @@
--- What the line of each call says of the input before it, v, and after it, w, and of the rooms before, x, and after, y. Assumes nothing.
-use Rattle.std.specs.Prelude.{◌≡◌, ℕ, Bool, true, false, List, Option}
-use Rattle.std.specs.Bool.{⊤}
-use Rattle.input.specs.declared.Closing.{Closing}
+-- What a line of answer says of the input before its call, v, and after it, w, and of the rooms
+-- before, x, and after, y.
+use Rattle.std.specs.Prelude.{◌≡◌, ℕ, Bool, true, false, cond, List, [], Option, decimal, ◌==◌, slice_range}
 use Rattle.input.specs.View.{View}
-use Rattle.input.specs.Calls.{Closes}
-use Rattle.input.specs.Tests.{Shown, plain_goes_on}
-use Rattle.answers.specs.declared.answer.Answer.{Answer}
-use Rattle.protocol.specs.declared.command.Fetch.{Fetch}
-use Rattle.protocol.specs.declared.command.Call.{Call}
+use Rattle.input.specs.Tests.{Shown}
+use Rattle.calls.specs.declared.call.Answer.{Answer}
+use Rattle.calls.specs.declared.call.Call.{Call}
+use Rattle.calls.specs.declared.call.NoClass.{NoClass}
+use Rattle.calls.specs.Entries.{Entry, Means, RaisesWindow, filled_after}
+use Rattle.calls.specs.Kinds.{kind_of}
+use Rattle.protocol.specs.declared.names.Probe.{Probe}
+use Rattle.protocol.specs.Answers.{answer_text, part_text, steps_text, line_of}
+use Rattle.protocol.specs.Values.{truth_name}
 use Rattle.player.specs.declared.rooms.Rooms.{Rooms}
-use Rattle.player.specs.Rooms.{next_bytes, next_filled, Had}
-use Rattle.player.specs.Meaning.{Steps, Counts, test_answer, compare_answer, Skimming, FetchLine, line_of, part_line}
+use Rattle.player.specs.Rooms.{next_bytes, next_filled, IsLastRoom}
 
--- a fetch has the room that is next, which becomes the last
-abbrev pub FetchPlays : {H : Type 0} → Fetch → List ℕ → Rooms → Rooms → View H → View H → Type 0
-FetchPlays fetch line x y v w =
-    (left : List ℕ) × (next : ℕ) × FetchLine fetch (next_bytes x.next) (next_filled x.next) left next line v w × Had left y
+-- no character is in a class that no line can name
+abbrev pub no_member : NoClass → ℕ → Bool
+no_member class c = false
 
--- the line that a call is answered with, on an input that shows this, can always have such a lookahead, has a source that was stepped so often
--- or none, and lends these parts
-abbrev pub Plays : {H : Type 0} → Shown → ℕ → Option ℕ → (ℕ → ℕ → Option (List ℕ) → Type 0) → Call → List ℕ → Rooms → Rooms → View H → View H → Type 0
-Plays s most stepped Lends (Call.Step step) line x y v w = (a : Answer) × (line ≡ line_of a) × Steps s most step a v w
-Plays s most stepped Lends (Call.Counted counted n) line x y v w = (a : Answer) × (line ≡ line_of a) × Counts s most counted n a v w
-Plays s most stepped Lends (Call.Test test) line x y v w = (line ≡ line_of (test_answer s test)) × (w ≡ v)
-Plays s most stepped Lends (Call.Comparison comparison) line x y v w = (line ≡ line_of (compare_answer s comparison)) × (w ≡ v)
-Plays s most stepped Lends (Call.CanBePlain in_flow) line x y v w = (line ≡ line_of (Answer.Truth (plain_goes_on in_flow s.at))) × (w ≡ v)
-Plays s most stepped Lends (Call.Skim skim) line x y v w = (a : Answer) × (line ≡ line_of a) × Skimming skim a v w
-Plays s most stepped Lends (Call.Fetch fetch) line x y v w = FetchPlays fetch line x y v w
-Plays s most stepped Lends (Call.Borrow start end) line x y v w = (part : Option (List ℕ)) × Lends start end part × (line ≡ part_line part) × (w ≡ v)
-Plays s most stepped Lends Call.Open line x y v w = (line ≡ line_of Answer.Done) × (w ≡ v)
-Plays s most stepped Lends Call.Close line x y v w = (r : Closing) × (line ≡ line_of (Answer.Closed r)) × Closes r v w
-Plays s most stepped Lends Call.Steps line x y v w = (line ≡ line_of (Answer.Steps stepped)) × (w ≡ v)
+-- a call with its room, its answer, and what it left in its room
+abbrev pub entry : Call NoClass → List ℕ → ℕ → Answer → List ℕ → Entry NoClass
+entry call room filled answer left =
+    record { call = call; room = room; filled = filled; answer = answer; left = left }
 
--- only a fetch changes the rooms
-abbrev pub RoomsStay : Call → Rooms → Rooms → Type 0
-RoomsStay (Call.Fetch fetch) x y = ⊤
-RoomsStay call x y = y ≡ x
+-- the bytes that were appended to the room
+abbrev pub appended_bytes : Entry NoClass → List ℕ
+appended_bytes e = slice_range e.left e.filled (filled_after e.filled e.answer)
 
--- whether a reading is open after a call, where one was or was not before
-abbrev pub open_after : Call → Bool → Bool
-open_after Call.Open before = true
-open_after Call.Close before = false
-open_after call before = before
+-- A call of an input that shows this, and can always have such a lookahead, went as the language of
+-- calls says, and its line tells its answer.
+pub record AnswersCall {H : Type 0} (s : Shown) (most : ℕ) (e : Entry NoClass) (line : List ℕ)
+    (v w : View H) : Type 0 where
+  pub means : Means no_member s e.call e v w
+  pub wide : RaisesWindow most e.call w
+  pub tells : line ≡ line_of (answer_text e.answer (appended_bytes e))
+
+-- a fetch has the room that is next, and another call has none
+abbrev pub room_of : Call NoClass → Rooms → List ℕ
+room_of call x = cond (kind_of call).fetches (next_bytes x.next) []
+
+abbrev pub filled_of : Call NoClass → Rooms → ℕ
+filled_of call x = cond (kind_of call).fetches (next_filled x.next) 0
+
+-- the room of a fetch becomes the last, and another call leaves the rooms as they were
+abbrev pub RoomsGo : Bool → List ℕ → Rooms → Rooms → Type 0
+RoomsGo true left x y = IsLastRoom left y
+RoomsGo false left x y = y ≡ x
+
+-- the line that a call is answered with
+pub record Plays {H : Type 0} (s : Shown) (most : ℕ) (call : Call NoClass) (line : List ℕ)
+    (x y : Rooms) (v w : View H) : Type 0 where
+  pub answer : Answer
+  pub left : List ℕ
+  pub goes : AnswersCall s most (entry call (room_of call x) (filled_of call x) answer left) line v w
+  pub rooms : RoomsGo (kind_of call).fetches left x y
+
+-- the line that a probe is answered with, of an input that can always have such a lookahead, has a
+-- source that was stepped so often or none, and lends these parts
+abbrev pub Probes : {H : Type 0} → ℕ → Option ℕ → (ℕ → ℕ → Option (List ℕ) → Type 0) → Probe
+    → List ℕ → View H → Type 0
+Probes most stepped Lends Probe.Buflen line v = line ≡ line_of (decimal v.window)
+Probes most stepped Lends Probe.Bufmaxlen line v = line ≡ line_of (decimal most)
+Probes most stepped Lends Probe.BufIsEmpty line v = line ≡ line_of (truth_name (v.window == 0))
+Probes most stepped Lends (Probe.SliceBorrowed start end) line v =
+    (part : Option (List ℕ)) × Lends start end part × (line ≡ line_of (part_text part))
+Probes most stepped Lends Probe.Steps line v = line ≡ line_of (steps_text stepped)

@@ -1,6 +1,6 @@
--- The rooms beside an input. Assumes nothing.
+-- The rooms beside an input.
 use Rattle.std.specs.Prelude.{◌≡◌, ℕ, ◌+◌, ◌≤◌, max, List, [], length, Some, None, Option, vec_items}
-use Rattle.utf8.specs.Room.{laid}
+use Rattle.utf8.specs.Room.{overlay}
 use Rattle.player.specs.declared.rooms.Room.{Room}
 use Rattle.player.specs.declared.usual.Usual.{Usual}
 use Rattle.player.specs.declared.rooms.Last.{Last}
@@ -17,7 +17,8 @@ shown_of (Some (AskedFor room)) usual = vec_items room.bytes
 abbrev pub last_room : Rooms → List ℕ
 last_room x = shown_of x.last x.usual
 
--- the bytes of the next fetch's room, which is the usual one if none was asked for, and its filled count
+-- the bytes of the next fetch's room, which is the usual one if none was asked for, and its filled
+-- count
 abbrev pub next_bytes : Option Room → List ℕ
 next_bytes None = untouched usual_size
 next_bytes (Some room) = vec_items room.bytes
@@ -27,7 +28,7 @@ next_filled None = 0
 next_filled (Some room) = room.filled
 
 -- no room was asked for, and none was shown yet
-pub record NewRooms (x : Rooms) : Type 0 where
+pub record AreNewRooms (x : Rooms) : Type 0 where
   pub next : x.next ≡ None
   pub last : x.last ≡ None
   pub bytes : vec_items x.usual.bytes ≡ untouched usual_size
@@ -43,13 +44,13 @@ pub record Asked (size filled : ℕ) (x y : Rooms) : Type 0 where
   pub last : y.last ≡ x.last
 
 -- a fetch left its room so, which is the last from then on, and no room is asked for any more
-pub record Had (left : List ℕ) (y : Rooms) : Type 0 where
+pub record IsLastRoom (left : List ℕ) (y : Rooms) : Type 0 where
   pub last : last_room y ≡ left
   pub next : y.next ≡ None
 
 -- Bytes are written from the filled count on, as many as there is room for; all others stay.
 pub record Lays (room : List ℕ) (filled : ℕ) (left : List ℕ) (next : ℕ) : Type 0 where
   pub bytes : List ℕ
-  pub lies : left ≡ laid room filled bytes
+  pub lies : left ≡ overlay room filled bytes
   pub fills : next ≡ filled + length bytes
   pub fits : next ≤ max filled (length room)

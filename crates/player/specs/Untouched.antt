@@ -1,4 +1,4 @@
--- Rooms before a fetch. Assumes nothing.
+-- Rooms before a fetch.
 use Rattle.std.specs.Prelude.{ℕ, List, replicate}
 
 -- so many bytes that nothing was written to

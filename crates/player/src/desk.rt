@@ -1,31 +1,38 @@
 //! What a player has beside its input: rooms, and the lines that it has yet to hand out.
 
-ghost use Rattle.std.specs.Prelude.{◌≡◌, ℕ, ◌<◌, ◌≤◌, List, [], ◌++◌, length, string_bytes, OnOk, IfOk};
+ghost use Rattle.std.specs.Prelude.{◌≡◌, ℕ, ◌<◌, ◌≤◌, List, [], ◌++◌, length, string_bytes, is_some, OnOk, IfOk};
+ghost use Rattle.protocol.specs.Answers.{reply_text, line_of};
 ghost use Rattle.player.specs.Aside.{AsideLine, AsideRooms};
-ghost use Rattle.player.specs.Meaning.{line_of};
-ghost use Rattle.player.specs.Rooms.{NewRooms};
+ghost use Rattle.player.specs.Rooms.{AreNewRooms};
+ghost use Rattle.player.specs.Turns.{Turns, open_next};
 
-use crate::classes::class_answer;
+use crate::play::probe_line;
+use crate::predicates::class_answer;
 use crate::rooms::Rooms;
-use answers::answer::Answer;
-use answers::line::push_answer;
-use protocol::command::Command;
+use calls::Answer;
+use input::borrowed::BorrowedInput;
+use input::stepped::Stepped;
+use input::ticket::Reading;
+use protocol::{Command, Reply, push_answer, push_reply};
+use runs::Scan;
 use std::alloc::{AllocError, Global};
 use std::io;
 
-/// So many bytes are handed out at once.
+/// So many bytes are handed out at once: few writes, and little to hold.
 const LARGE: usize = 65_536;
 
+/// Where a player keeps the rooms of its fetches, and collects its lines of answer.
 #[derive(Drop)]
 pub struct Desk {
     heap: Global,
-    pub(crate) rooms: Rooms,
-    pub(crate) out: String,
+    rooms: Rooms,
+    out: String,
 }
 
 impl Desk {
+    /// A desk with no line, and new rooms.
     pub fn new(heap: Global) -> Result<Desk, AllocError>
-        ensures { IfOk result (λ desk. (string_bytes desk.out ≡ []) × NewRooms desk.rooms) }
+        ensures { IfOk result (λ desk. (string_bytes desk.out ≡ []) × AreNewRooms desk.rooms) }
     {
         let rooms = Rooms::new(heap)?;
         Ok(Desk {
@@ -44,26 +51,47 @@ impl Desk {
     {
         match command {
             Command::Silent | Command::New => Ok(()),
-            Command::Bad => push_answer(&mut self.out, Answer::Bad),
-            Command::Class(class, code) => push_answer(&mut self.out, class_answer(class, code)),
-            Command::Production(production, code) => {
-                push_answer(&mut self.out, class_answer(production, code))
+            Command::Bad => push_reply(&mut self.out, Reply::Bad),
+            Command::Class(predicate, code) => {
+                let answer = Answer::Tested(class_answer(predicate, code));
+                push_answer(&mut self.out, answer, &[])
             }
             Command::Room(size, filled) => {
                 self.rooms.ask(self.heap, size, filled)?;
-                push_answer(&mut self.out, Answer::Done)
+                push_reply(&mut self.out, Reply::Done)
             }
             Command::RoomBytes => self.rooms.show(&mut self.out),
-            Command::Call(_) => push_answer(&mut self.out, Answer::NoInput),
+            Command::Call(_) | Command::Probe(_) => push_reply(&mut self.out, Reply::NoInput),
+        }
+    }
+
+    /// Answers a command with an input, and hands on the ticket of an open reading.
+    pub(crate) fn turn<'a, I: Scan + BorrowedInput<'a> + Stepped>(
+        &mut self,
+        input: &mut I,
+        command: Command,
+        held: Option<Reading>,
+    ) -> (Result<(), AllocError>, Option<Reading>)
+        ensures line { OnOk result.0 ((line : List ℕ)
+            × (string_bytes self.new.out ≡ string_bytes self.old.out ++ line)
+            × Turns (I.shown input.old) (I.most input.old) (I.stepped input.old) (I.Lends input.old)
+            command line self.old.rooms self.new.rooms (I.view input.old) (I.view input.new)) }
+        ensures held { is_some result.1 ≡ open_next command (is_some held) }
+    {
+        match command {
+            Command::Call(call) => self.rooms.play(input, call, held, &mut self.out),
+            Command::Probe(probe) => (probe_line(input, probe, &mut self.out), held),
+            other => (self.aside(other), held),
         }
     }
 
     /// Answers a new input.
-    pub fn begin(&mut self, answer: Answer) -> Result<(), AllocError>
-        ensures line { OnOk result (string_bytes self.new.out ≡ string_bytes self.old.out ++ line_of answer) }
+    pub fn begin(&mut self, reply: Reply) -> Result<(), AllocError>
+        ensures line { OnOk result
+            (string_bytes self.new.out ≡ string_bytes self.old.out ++ line_of (reply_text reply)) }
         ensures rooms { self.new.rooms ≡ self.old.rooms }
     {
-        push_answer(&mut self.out, answer)
+        push_reply(&mut self.out, reply)
     }
 
     /// Hands out the lines that wait.
@@ -78,8 +106,10 @@ impl Desk {
 
     /// Hands out the lines that wait once they are many.
     pub fn flush_if_large(&mut self, rt: &impl Print) -> io::Result<()>
-        ensures few { OnOk result (length (string_bytes self.old.out) < 65536 → string_bytes self.new.out ≡ string_bytes self.old.out) }
-        ensures many { OnOk result (65536 ≤ length (string_bytes self.old.out) → string_bytes self.new.out ≡ []) }
+        ensures few { OnOk result (length (string_bytes self.old.out) < 65536
+            → string_bytes self.new.out ≡ string_bytes self.old.out) }
+        ensures many { OnOk result (65536 ≤ length (string_bytes self.old.out)
+            → string_bytes self.new.out ≡ []) }
         ensures rooms { self.new.rooms ≡ self.old.rooms }
     {
         if self.out.len() < LARGE {

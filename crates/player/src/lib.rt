@@ -1,11 +1,12 @@
 //! Commands of the protocol, performed on an input of any kind.
 #![tactic(auto)]
 
-mod classes;
-pub mod desk;
-pub mod list;
-mod perform;
+mod desk;
+mod list;
 mod play;
+mod predicates;
 mod rooms;
-pub mod stepped;
 mod usual;
+
+pub use desk::Desk;
+pub use list::{Lines, idle, serve};

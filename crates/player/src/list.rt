@@ -1,23 +1,21 @@
 //! Commands line by line, up to the next new input.
 
-ghost use Rattle.std.specs.Prelude.{◌≡◌, ℕ, ◌<◌, ◌≤◌, List, [], ◌++◌, length, string_bytes, is_some, IsOk, OnOk, IfOk};
+ghost use Rattle.std.specs.Prelude.{◌≡◌, ◌<◌, ◌≤◌, [], length, string_bytes, IsOk, OnOk, IfOk};
 ghost use Rattle.player.specs.Lines.{IsLineFeed, TakesLine, Leaves};
-ghost use Rattle.player.specs.Turns.{Turns, open_next};
 
 use crate::desk::Desk;
-use crate::play::play;
-use crate::stepped::Stepped;
 use input::borrowed::BorrowedInput;
+use input::stepped::Stepped;
 use input::ticket::Reading;
-use protocol::command::{Command, parse};
-use scan::Scan;
+use protocol::{Command, parse};
+use runs::Scan;
 use std::alloc::AllocError;
 use std::io;
 
 /// The lines of a text that are yet to be read.
 #[derive(Clone, Copy)]
 pub struct Lines<'a> {
-    pub rest: &'a [u8],
+    rest: &'a [u8],
 }
 
 /// Where the first line feed of a text is, if it has one.
@@ -28,6 +26,7 @@ fn line_feed(text: &[u8]) -> Option<usize>
 }
 
 impl<'a> Lines<'a> {
+    /// The lines of a whole text.
     pub fn new(text: &'a [u8]) -> Lines<'a>
         ensures { result.rest.now ≡ text.now }
     {
@@ -55,7 +54,8 @@ impl<'a> Lines<'a> {
     }
 }
 
-/// Answers commands while there is no input. Tells the line that asks for the next new input, or that there is none.
+/// Answers commands while there is no input. Tells the line that asks for the next new input, or
+/// that there is none.
 #[tactic(auto, using(crate::proofs::TakenLines::shorter, crate::proofs::TakenLines::passed_none, crate::proofs::TakenLines::passed_more, crate::proofs::TakenLines::leaves_none, crate::proofs::TakenLines::leaves_some))]
 pub fn idle<'a>(
     rt: &impl Print,
@@ -74,36 +74,21 @@ pub fn idle<'a>(
     Ok(None)
 }
 
-/// Answers one command, and hands on the ticket of an open reading.
-fn turn<'a, I: Scan + BorrowedInput<'a> + Stepped>(
-    input: &mut I,
-    command: Command,
-    held: Option<Reading>,
-    desk: &mut Desk,
-) -> (Result<(), AllocError>, Option<Reading>)
-    ensures line { OnOk result.0 ((line : List ℕ) × (string_bytes desk.new.out ≡ string_bytes desk.old.out ++ line)
-        × Turns (I.Input.shown input.old) (I.Input.most input.old) (I.Stepped.stepped input.old) (I.BorrowedInput.Lends input.old)
-        command line desk.old.rooms desk.new.rooms (I.Input.view input.old) (I.Input.view input.new)) }
-    ensures held { is_some result.1 ≡ open_next command (is_some held) }
-{
-    match command {
-        Command::Call(call) => play(input, call, held, &mut desk.rooms, &mut desk.out),
-        other => (desk.aside(other), held),
-    }
-}
-
 /// After a command is answered, hands out the lines that wait if they are many.
-fn settled(done: Result<(), AllocError>, rt: &impl Print, desk: &mut Desk) -> io::Result<()>
+fn settle(done: Result<(), AllocError>, rt: &impl Print, desk: &mut Desk) -> io::Result<()>
     ensures done { OnOk result (IsOk done) }
-    ensures few { OnOk result (length (string_bytes desk.old.out) < 65536 → string_bytes desk.new.out ≡ string_bytes desk.old.out) }
-    ensures many { OnOk result (65536 ≤ length (string_bytes desk.old.out) → string_bytes desk.new.out ≡ []) }
+    ensures few { OnOk result (length (string_bytes desk.old.out) < 65536
+        → string_bytes desk.new.out ≡ string_bytes desk.old.out) }
+    ensures many { OnOk result (65536 ≤ length (string_bytes desk.old.out)
+        → string_bytes desk.new.out ≡ []) }
     ensures rooms { desk.new.rooms ≡ desk.old.rooms }
 {
     done?;
     desk.flush_if_large(rt)
 }
 
-/// Answers commands with an input, and at last closes the reading that is open. Tells the line that asks for the next new input, or that there is none.
+/// Answers commands with an input, and at last closes the reading that is open. Tells the line that
+/// asks for the next new input, or that there is none.
 #[tactic(auto, using(crate::proofs::TakenLines::shorter, crate::proofs::TakenLines::passed_none, crate::proofs::TakenLines::passed_more, crate::proofs::TakenLines::leaves_none, crate::proofs::TakenLines::leaves_some))]
 pub fn serve<'a, 'b, I: Scan + BorrowedInput<'a> + Stepped>(
     rt: &impl Print,
@@ -122,9 +107,9 @@ pub fn serve<'a, 'b, I: Scan + BorrowedInput<'a> + Stepped>(
             Command::New => break Ok(Some(line)),
             command => command,
         };
-        let (done, next) = turn(input, command, held, desk);
+        let (done, next) = desk.turn(input, command, held);
         held = next;
-        if let Err(e) = settled(done, rt, desk) {
+        if let Err(e) = settle(done, rt, desk) {
             break Err(e);
         }
     };

@@ -1,17 +1,19 @@
 //! The rooms that fetches are given.
 
-ghost use Rattle.std.specs.Prelude.{◌≡◌, ℕ, ◌≤◌, max, List, [], ◌∷◌, ◌++◌, length, string_bytes, vec_items, OnOk, IfOk};
-ghost use Rattle.answers.specs.Digits.{bytes_text};
+ghost use Rattle.std.specs.Prelude.{◌≡◌, ℕ, List, [], ◌++◌, string_bytes, vec_items, is_some, OnOk, IfOk};
+ghost use Rattle.calls.specs.Entries.{opens};
+ghost use Rattle.protocol.specs.Answers.{line_of};
+ghost use Rattle.protocol.specs.Digits.{bytes_text};
 ghost use Rattle.player.specs.Untouched.{untouched};
-ghost use Rattle.player.specs.Rooms.{last_room, next_bytes, next_filled, NewRooms, Asked, Lays};
-ghost use Rattle.player.specs.Meaning.{between, FetchLine};
-ghost use Rattle.player.specs.Plays.{FetchPlays};
+ghost use Rattle.player.specs.Rooms.{last_room, AreNewRooms, Asked};
+ghost use Rattle.player.specs.Plays.{Plays};
 
-use crate::perform::fetch;
+use crate::play::{call_line, fetch_line};
 use crate::usual::Usual;
-use answers::line::{push_fetched, push_room};
-use protocol::command::Fetch;
-use scan::Scan;
+use calls::{Call, NoClass};
+use input::ticket::Reading;
+use protocol::push_room;
+use runs::Scan;
 use std::alloc::{AllocError, Global};
 
 /// What a room holds before a fetch.
@@ -31,7 +33,7 @@ enum Last {
     Asked(Room),
 }
 
-/// One usual room, and the next that was asked for.
+/// The rooms of a player: the usual one, the next that was asked for, and which the last fetch had.
 #[derive(Drop)]
 pub struct Rooms {
     usual: Usual,
@@ -47,35 +49,16 @@ pub(crate) fn clean_bytes(heap: Global, size: usize) -> Result<Vec<u8>, AllocErr
     vec![in heap; UNTOUCHED; size]
 }
 
-/// The bytes from one filled count to another.
-fn appended(room: &[u8], from: usize, to: usize) -> &[u8]
-    requires { to ≤ max from (length room.now) }
-    ensures { result.now ≡ between from to room.now }
-{
-    if from < to { &room[from..to] } else { &[] }
-}
-
-/// A fetch into a room, and its line. Tells the new filled count.
-pub(crate) fn fetch_line<I: Scan>(
-    input: &mut I,
-    asked: Fetch,
-    room: &mut [u8],
-    filled: usize,
-    out: &mut String,
-) -> (Result<(), AllocError>, usize)
-    ensures line { (line : List ℕ) × OnOk result.0 (string_bytes out.new ≡ string_bytes out.old ++ line)
-        × FetchLine asked room.old filled room.new result.1 line (I.Input.view input.old) (I.Input.view input.new) }
-    ensures lays { Lays room.old filled room.new result.1 }
-{
-    let (stopped, fetched) = fetch(input, asked, room, filled);
-    let bytes = appended(room, filled, fetched.filled);
-    let pushed = push_fetched(out, stopped, fetched.count, bytes, fetched.refusal);
-    (pushed, fetched.filled)
-}
-
 impl Room {
+    ghost use Rattle.std.specs.Prelude.{true};
+    ghost use Rattle.calls.specs.declared.call.Answer.{Answer};
+    ghost use Rattle.calls.specs.Entries.{filled_after};
+    ghost use Rattle.calls.specs.Kinds.{kind_of};
+    ghost use Rattle.player.specs.Plays.{entry, AnswersCall};
+
     fn new(heap: Global, size: usize, filled: usize) -> Result<Room, AllocError>
-        ensures { IfOk result (λ room. (vec_items room.bytes ≡ untouched size) × (room.filled ≡ filled)) }
+        ensures { IfOk result (λ room. (vec_items room.bytes ≡ untouched size)
+            × (room.filled ≡ filled)) }
     {
         let bytes = clean_bytes(heap, size)?;
         Ok(Room { bytes, filled })
@@ -85,23 +68,30 @@ impl Room {
     fn fetch<I: Scan>(
         &mut self,
         input: &mut I,
-        asked: Fetch,
+        fetch: Call<NoClass>,
+        held: Option<Reading>,
         out: &mut String,
-    ) -> Result<(), AllocError>
-        ensures { (line : List ℕ) × OnOk result (string_bytes out.new ≡ string_bytes out.old ++ line)
-            × FetchLine asked (vec_items self.old.bytes) self.old.filled (vec_items self.new.bytes) self.new.filled line
-            (I.Input.view input.old) (I.Input.view input.new) }
+    ) -> (Result<(), AllocError>, Option<Reading>)
+        requires { (kind_of fetch).fetches ≡ true }
+        ensures line { (line : List ℕ) × (a : Answer)
+            × OnOk result.0 (string_bytes out.new ≡ string_bytes out.old ++ line)
+            × (self.new.filled ≡ filled_after self.old.filled a)
+            × AnswersCall (I.shown input.old) (I.most input.old)
+            (entry fetch (vec_items self.old.bytes) self.old.filled a (vec_items self.new.bytes))
+            line (I.view input.old) (I.view input.new) }
+        ensures held { is_some result.1 ≡ opens fetch (is_some held) }
     {
         let room = self.bytes.as_mut_slice();
-        let (pushed, filled) = fetch_line(input, asked, room, self.filled, out);
+        let (pushed, held, filled) = fetch_line(input, fetch, room, self.filled, held, out);
         self.filled = filled;
-        pushed
+        (pushed, held)
     }
 }
 
 impl Rooms {
-    pub fn new(heap: Global) -> Result<Rooms, AllocError>
-        ensures { IfOk result NewRooms }
+    /// The usual room, untouched, and no other.
+    pub(crate) fn new(heap: Global) -> Result<Rooms, AllocError>
+        ensures { IfOk result AreNewRooms }
     {
         Ok(Rooms {
             usual: Usual::new(heap)?,
@@ -111,7 +101,7 @@ impl Rooms {
     }
 
     /// Gives the next fetch a room of its own.
-    pub fn ask(&mut self, heap: Global, size: usize, filled: usize) -> Result<(), AllocError>
+    pub(crate) fn ask(&mut self, heap: Global, size: usize, filled: usize) -> Result<(), AllocError>
         ensures { OnOk result (Asked size filled self.old self.new) }
     {
         self.next = Some(Room::new(heap, size, filled)?);
@@ -119,35 +109,45 @@ impl Rooms {
     }
 
     /// Appends a line with the last room whole.
-    pub fn show(&self, out: &mut String) -> Result<(), AllocError>
-        ensures { OnOk result (string_bytes out.new ≡ string_bytes out.old ++ (bytes_text (last_room self.now) ++ (10 ∷ []))) }
+    pub(crate) fn show(&self, out: &mut String) -> Result<(), AllocError>
+        ensures { OnOk result
+            (string_bytes out.new ≡ string_bytes out.old
+            ++ line_of (bytes_text (last_room self.now))) }
     {
         match &self.last {
             None => push_room(out, &[]),
-            Some(Last::Usual) => push_room(out, self.usual.bytes.as_slice()),
+            Some(Last::Usual) => push_room(out, self.usual.bytes()),
             Some(Last::Asked(room)) => push_room(out, room.bytes.as_slice()),
         }
     }
 
-    /// A fetch into the room that was asked for, or else into the usual one.
-    pub fn fetch<I: Scan>(
+    /// Makes a call, and appends its line. A fetch has the room that was asked for, or else the
+    /// usual one. The ticket of an open reading is handed on, and closing takes it.
+    pub(crate) fn play<I: Scan>(
         &mut self,
         input: &mut I,
-        asked: Fetch,
+        call: Call<NoClass>,
+        held: Option<Reading>,
         out: &mut String,
-    ) -> Result<(), AllocError>
-        ensures { (line : List ℕ) × OnOk result (string_bytes out.new ≡ string_bytes out.old ++ line)
-            × FetchPlays asked line self.old self.new (I.Input.view input.old) (I.Input.view input.new) }
+    ) -> (Result<(), AllocError>, Option<Reading>)
+        ensures line { (line : List ℕ)
+            × OnOk result.0 (string_bytes out.new ≡ string_bytes out.old ++ line)
+            × Plays (I.shown input.old) (I.most input.old) call line self.old self.new
+            (I.view input.old) (I.view input.new) }
+        ensures held { is_some result.1 ≡ opens call (is_some held) }
     {
+        if !call.fetches() {
+            return call_line(input, call, held, out);
+        }
         match self.next.take() {
             Some(mut room) => {
-                let pushed = room.fetch(input, asked, out);
+                let (pushed, held) = room.fetch(input, call, held, out);
                 self.last = Some(Last::Asked(room));
-                pushed
+                (pushed, held)
             }
             None => {
                 self.last = Some(Last::Usual);
-                self.usual.fetch(input, asked, out)
+                self.usual.fetch(input, call, held, out)
             }
         }
     }

@@ -1,5 +1,6 @@
+pub mod Hex
 pub mod Listing
 pub mod Making
-pub mod Naming
 pub mod Spelling
 pub mod Words
+pub mod Written

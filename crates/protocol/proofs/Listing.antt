@@ -1,6 +1,6 @@
--- Codes, one word more at a time. Assumes nothing.
+-- Codes, one word more at a time.
 use Rattle.std.proofs.Common.{◌≡◌, ℕ, List, [], ◌∷◌, ◌++◌, None, sym, ap, ◌∙◌, subst, append_assoc, append-nil}
-use Rattle.protocol.specs.Values.{Reads}
+use Rattle.protocol.specs.Values.{ReadsNumber}
 use Rattle.protocol.specs.Forms.{Code}
 use Rattle.protocol.specs.Makes.{Codes}
 
@@ -21,13 +21,13 @@ code_more list more words rest left c word (done, parts, so) e code grown = (
   subst (λ cs. Codes cs (done ++ (word ∷ []))) (sym grown) (one_more list done c word so code),
 )
 
-stuck : (done rest : List (List ℕ)) (word : List ℕ) (list : List ℕ) → Reads 32 16 word None → Codes list (done ++ (word ∷ rest)) → ⊥
+stuck : (done rest : List (List ℕ)) (word : List ℕ) (list : List ℕ) → ReadsNumber 32 16 word None → Codes list (done ++ (word ∷ rest)) → ⊥
 stuck [] rest word [] none so = so
 stuck [] rest word (c ∷ list) none so = none so.0.0
 stuck (d ∷ done) rest word [] none so = so
 stuck (d ∷ done) rest word (c ∷ list) none so = stuck done rest word list none so.1
 
-pub code_none : (list : List ℕ) (words rest left : List (List ℕ)) (word : List ℕ) → SoFar list words rest → rest ≡ word ∷ left → Reads 32 16 word None → (other : List ℕ) → Codes other words → ⊥
+pub code_none : (list : List ℕ) (words rest left : List (List ℕ)) (word : List ℕ) → SoFar list words rest → rest ≡ word ∷ left → ReadsNumber 32 16 word None → (other : List ℕ) → Codes other words → ⊥
 code_none list words rest left word (done, parts, so) e none other k =
     stuck done left word other none (subst (λ ws. Codes other ws) (parts ∙ ap (λ ws. done ++ ws) e) k)
 

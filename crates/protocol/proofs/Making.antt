@@ -1,4 +1,4 @@
--- Words that ask for no input. Assumes nothing.
+-- Words that ask for no input.
 use Rattle.std.proofs.Common.{rules, ◌≡◌, ℕ, List, ◌∷◌, codes, vec_items, Vec, Some, None, Option, MatchOption, IsSomeAnd, sym, subst, refl}
 use Rattle.protocol.specs.Makes.{Bytes, ReadsBytes, Makes, AsksFor}
 use Rattle.std.specs.declared.alloc.Global.{Global}

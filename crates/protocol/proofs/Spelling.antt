@@ -1,4 +1,4 @@
--- Bytes spelled by digits, one more at a time. Assumes nothing.
+-- Bytes spelled by digits, one more at a time.
 use Rattle.std.proofs.Common.{◌≡◌, ℕ, zero, suc, ◌+◌, ◌*◌, ◌/◌, ◌<◌, List, [], ◌∷◌, ◌++◌, length, get_or, drop, ap, ◌∙◌, arith, below_more}
 use Rattle.std.proofs.lemmas.List.{length_push, get_or_push, get_or_append_left, get_or-drop, get_or-take}
 use Rattle.std.specs.Simd.{first_chunks}

@@ -1,5 +1,8 @@
+pub mod Digits
 pub mod Values
 pub mod Words
-pub mod Commands
 pub mod Forms
+pub mod Names
+pub mod Answers
+pub mod Commands
 pub mod Makes

@@ -1,4 +1,4 @@
--- What a line with the name `new` asks for. Assumes nothing.
+-- What a line with the name `new` asks for.
 use Rattle.std.specs.Prelude.{◌≡◌, ℕ, List, [], ◌∷◌, drop, vec_items, codes, Some, None, Option, Vec, ◌⊎◌}
 use Rattle.std.specs.declared.alloc.Global.{Global}
 use Rattle.std.specs.Bool.{⊤}
@@ -40,9 +40,12 @@ ReadsCodes words (Some list) = Codes (vec_items list) words
 -- the words after the name ask for this input
 abbrev pub Makes : List (List ℕ) → Make → Type 0
 Makes words (Make.Slice bytes) = Begins (codes "slice" ∷ []) (Bytes (vec_items bytes)) words
-Makes words (Make.Text bytes) = Begins (codes "ring" ∷ codes "text" ∷ []) (Bytes (vec_items bytes)) words
-Makes words (Make.Bytes bytes) = Begins (codes "ring" ∷ codes "bytes" ∷ []) (Bytes (vec_items bytes)) words
-Makes words (Make.Codes list ending) = Begins (codes "ring" ∷ codes "codes" ∷ ending_name ending ∷ []) (Codes (vec_items list)) words
+Makes words (Make.Text bytes) =
+    Begins (codes "ring" ∷ codes "text" ∷ []) (Bytes (vec_items bytes)) words
+Makes words (Make.Bytes bytes) =
+    Begins (codes "ring" ∷ codes "bytes" ∷ []) (Bytes (vec_items bytes)) words
+Makes words (Make.Codes list ending) =
+    Begins (codes "ring" ∷ codes "codes" ∷ ending_name ending ∷ []) (Codes (vec_items list)) words
 
 -- the input that the words ask for, or none where they ask for none
 abbrev pub AsksFor : List (List ℕ) → Option Make → Type 0
@@ -51,4 +54,6 @@ AsksFor words (Some make) = Makes words make
 
 -- the input that a line asks for; what is no text asks for none
 abbrev pub IsNewLine : List ℕ → Option Make → Type 0
-IsNewLine line told = (IsUtf8 line × AsksFor (drop 1 (words_of line)) told) ⊎ ((IsUtf8 line → ⊥) × (told ≡ None))
+IsNewLine line told =
+    (IsUtf8 line × AsksFor (drop 1 (words_of line)) told)
+    ⊎ ((IsUtf8 line → ⊥) × (told ≡ None))

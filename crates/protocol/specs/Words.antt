@@ -1,4 +1,4 @@
--- The words of a text. Assumes nothing.
+-- The words of a text.
 use Rattle.std.specs.Prelude.{◌≡◌, ℕ, Bool, true, false, List, [], ◌∷◌, Some, None, Option}
 use Rattle.std.specs.Borrow.{Bor}
 use Rattle.std.specs.List.{filter, slice_split}
@@ -15,8 +15,8 @@ abbrev pub words_of : List ℕ → List (List ℕ)
 words_of text = filter has_any (slice_split is_ascii_whitespace text)
 
 -- the words that are yet to come
-abbrev pub to_come : SplitAscii → List (List ℕ)
-to_come words = words_of (split_ascii_whitespace_text words)
+abbrev pub words_left : SplitAscii → List (List ℕ)
+words_left words = words_of (split_ascii_whitespace_text words)
 
 -- the first of the words is taken, or there is none
 abbrev pub TakesWord : List (List ℕ) → Option (Bor (List ℕ)) → List (List ℕ) → Type 0

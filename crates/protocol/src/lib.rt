@@ -1,6 +1,17 @@
-//! Commands as lines of text.
+//! The protocol: a line of words asks for a call of an input, or for what lists do not have, and is
+//! answered with a line of text.
 #![tactic(auto)]
 
-pub mod command;
-pub mod make;
-pub mod values;
+mod answer;
+mod command;
+mod digits;
+mod line;
+mod make;
+mod names;
+mod values;
+
+pub use answer::Reply;
+pub use command::{Command, parse};
+pub use line::{push_answer, push_part, push_reply, push_room};
+pub use make::{Make, parse_new};
+pub use names::{Predicate, Probe};

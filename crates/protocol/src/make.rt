@@ -1,23 +1,26 @@
 //! A line that asks for a new input.
 
 ghost use Rattle.std.specs.Prelude.{[], ◌∷◌, codes, drop, IfOk};
-ghost use Rattle.names.specs.Names.{Named};
-ghost use Rattle.protocol.specs.Values.{ending_name};
-ghost use Rattle.protocol.specs.Words.{words_of, to_come};
+ghost use Rattle.protocol.specs.Values.{IsNamed, ending_name};
+ghost use Rattle.protocol.specs.Words.{words_of, words_left};
 ghost use Rattle.protocol.specs.Makes.{ReadsBytes, ReadsCodes, AsksFor, IsNewLine};
 
 use crate::command::next_word;
 use crate::values::{bytes_of, code_of};
-use source::codes::CodesEnding;
+use source::CodesEnding;
 use std::alloc::{AllocError, Global};
 use std::str::{SplitAsciiWhitespace, from_utf8};
 
-/// What a new input reads.
+/// The input that a line asks for, with what it is to read.
 #[derive(Drop)]
 pub enum Make {
+    /// A slice.
     Slice(Vec<u8>),
+    /// A ring over the characters of a text.
     Text(Vec<u8>),
+    /// A ring over any bytes.
     Bytes(Vec<u8>),
+    /// A ring over codes, after which the line ends so.
     Codes(Vec<u32>, CodesEnding),
 }
 
@@ -36,7 +39,7 @@ fn bytes_in(
     heap: Global,
     mut words: SplitAsciiWhitespace<'_>,
 ) -> Result<Option<Vec<u8>>, AllocError>
-    ensures { IfOk result (λ told. ReadsBytes (to_come words.entry) told) }
+    ensures { IfOk result (λ told. ReadsBytes (words_left words.entry) told) }
 {
     match (next_word(&mut words), next_word(&mut words)) {
         (None, _) => Ok(Some(Vec::new(heap))),
@@ -47,7 +50,7 @@ fn bytes_in(
 
 /// How a list of codes ends, by its name.
 fn ending_of(word: &str) -> Option<CodesEnding>
-    ensures { Named ending_name word.now result }
+    ensures { IsNamed ending_name word.now result }
 {
     match word {
         "clean" => Some(CodesEnding::Clean),
@@ -59,7 +62,7 @@ fn ending_of(word: &str) -> Option<CodesEnding>
 /// The codes of these words, if each is one.
 #[tactic(auto, using(crate::proofs::Words::takes_word, crate::proofs::Listing::codes_all))]
 fn codes_in(heap: Global, words: SplitAsciiWhitespace<'_>) -> Result<Option<Vec<u32>>, AllocError>
-    ensures { IfOk result (λ told. ReadsCodes (to_come words.entry) told) }
+    ensures { IfOk result (λ told. ReadsCodes (words_left words.entry) told) }
 {
     let mut codes = Vec::new(heap);
     for word in words {
@@ -72,7 +75,8 @@ fn codes_in(heap: Global, words: SplitAsciiWhitespace<'_>) -> Result<Option<Vec<
 }
 
 fn codes_make(heap: Global, mut words: SplitAsciiWhitespace<'_>) -> Result<Option<Make>, AllocError>
-    ensures { IfOk result (λ told. AsksFor (codes "ring" ∷ codes "codes" ∷ to_come words.entry) told) }
+    ensures { IfOk result
+        (λ told. AsksFor (codes "ring" ∷ codes "codes" ∷ words_left words.entry) told) }
 {
     match next_word(&mut words).and_then(ending_of) {
         Some(ending) => Ok(codes_in(heap, words)?.map(|codes| Make::Codes(codes, ending))),
@@ -82,7 +86,7 @@ fn codes_make(heap: Global, mut words: SplitAsciiWhitespace<'_>) -> Result<Optio
 
 #[tactic(auto, using(crate::proofs::Making::text_made, crate::proofs::Making::bytes_made))]
 fn ring(heap: Global, mut words: SplitAsciiWhitespace<'_>) -> Result<Option<Make>, AllocError>
-    ensures { IfOk result (λ told. AsksFor (codes "ring" ∷ to_come words.entry) told) }
+    ensures { IfOk result (λ told. AsksFor (codes "ring" ∷ words_left words.entry) told) }
 {
     match next_word(&mut words) {
         Some("text") => Ok(bytes_in(heap, words)?.map(Make::Text)),

@@ -1,58 +1,60 @@
--- The theorem of lists that fetch nothing, in calls and answers alone. Assumes nothing.
-use Rattle.std.proofs.Common.{◌≡◌, ℕ, ◌≤◌, max, Bool, true, false, cond, List, [], ◌∷◌, map, sym, refl, ap, ◌∙◌, subst}
+-- The theorem of lists that fetch nothing, in calls and answers alone.
+use Rattle.std.proofs.Common.{◌≡◌, ℕ, ◌≤◌, max, Bool, true, false, cond, List, [], ◌∷◌, map, sym, refl, ap, ◌∙◌, subst, arith}
 use Rattle.input.specs.View.{View}
-use Rattle.reading.specs.declared.call.Call.{Call}
-use Rattle.reading.specs.Line.{Line, answered}
-use Rattle.reading.specs.Sorts.{sort_of}
-use Rattle.reading.specs.Reading.{Given, Got, given, got, calls, answers, Listed, Same}
+use Rattle.input.proofs.Keeping.{never}
+use Rattle.calls.specs.declared.call.Call.{Call}
+use Rattle.calls.specs.Entries.{Entry, answer_number}
+use Rattle.calls.specs.Kinds.{kind_of}
+use Rattle.reading.specs.Reading.{call_given, answer_got, compared_entries, IsReadingList, SameAnswers}
 
--- the calls that are compared, and their answers by number and values
-abbrev pub called : List Line → List Call
-called [] = []
-called (l ∷ ls) = cond (sort_of l.call).compared (l.call ∷ called ls) (called ls)
+module _ {C : Type 0} where
+  -- the calls that are compared, and their answers by number and values
+  abbrev pub called : List (Entry C) → List (Call C)
+  called es = map (λ e. e.call) (compared_entries es)
 
-abbrev pub said : List Line → List (ℕ × List ℕ)
-said [] = []
-said (l ∷ ls) = cond (sort_of l.call).compared (answered l.answer ∷ said ls) (said ls)
+  abbrev pub said : List (Entry C) → List (ℕ × List ℕ)
+  said es = map (λ e. answer_number e.answer) (compared_entries es)
 
--- none of them brings a room, and they are a reading list
-abbrev pub Roomless : ℕ → List Call → Type 0
-Roomless reach [] = Unit {0}
-Roomless reach (k ∷ ks) =
-    ((sort_of k).fetches ≡ false) × ((sort_of k).plain ≡ true) × ((sort_of k).reaches ≤ reach) × Roomless (max reach (sort_of k).lengthens) ks
+  -- none of them brings a room, and they are a reading list
+  abbrev pub Roomless : ℕ → List (Call C) → Type 0
+  Roomless reach [] = Unit {0}
+  Roomless reach (k ∷ ks) =
+      ((kind_of k).fetches ≡ false) × ((kind_of k).plain ≡ true) × ((kind_of k).reaches ≤ reach) × Roomless (max reach (kind_of k).lengthens) ks
 
-bare : Call → Given
-bare k = record { call = k; room = []; filled = 0 }
+  bare : Call C → Call C × List ℕ × ℕ
+  bare k = (k, [], 0)
 
-bare_given : (l : Line) → (sort_of l.call).fetches ≡ false → given l ≡ bare l.call
-unfolding bare
-bare_given l e = λ i. record { call = l.call; room = cond (e i) l.room []; filled = cond (e i) l.filled 0 }
+  calls_bare : (es : List (Entry C)) (reach : ℕ) → Roomless reach (map (λ e. e.call) es) → map call_given es ≡ map bare (map (λ e. e.call) es)
+  unfolding bare
+  calls_bare [] reach h = refl
+  calls_bare (e ∷ es) reach (none, _, _, more) =
+      let same = calls_bare es _ more in λ i. (e.call, cond (none i) e.room [], cond (none i) e.filled 0) ∷ same i
 
-calls_bare : (ls : List Line) (reach : ℕ) → Roomless reach (called ls) → calls ls ≡ map bare (called ls)
-calls_bare [] reach h = refl
-calls_bare (l ∷ ls) reach h = go (sort_of l.call).compared (λ r more. calls_bare ls r more) h
-  where
-    go : (b : Bool) → ((r : ℕ) → Roomless r (called ls) → calls ls ≡ map bare (called ls)) → Roomless reach (cond b (l.call ∷ called ls) (called ls))
-        → cond b (given l ∷ calls ls) (calls ls) ≡ map bare (cond b (l.call ∷ called ls) (called ls))
-    go true rest (e, _, _, more) = let same = rest _ more in λ i. bare_given l e i ∷ same i
-    go false rest more = rest reach more
+  said_got : (es : List (Entry C)) → map (λ e. answer_number e.answer) es ≡ map (λ (g : (ℕ × List ℕ) × List ℕ). g.0) (map answer_got es)
+  said_got [] = refl
+  said_got (e ∷ es) = ap (λ r. answer_number e.answer ∷ r) (said_got es)
 
-said_got : (ls : List Line) → said ls ≡ map (λ (g : Got). g.answer) (answers ls)
-said_got [] = refl
-said_got (l ∷ ls) =
-    elim (sort_of l.call).compared as (λ b. cond b (answered l.answer ∷ said ls) (said ls) ≡ map (λ (g : Got). g.answer) (cond b (got l ∷ answers ls) (answers ls)))
-    [ true ↦ ap (λ r. answered l.answer ∷ r) (said_got ls) | false ↦ said_got ls ]
+  uncompared : (k : Call C) → (kind_of k).compared ≡ false → ((kind_of k).plain ≡ true) × ((kind_of k).reaches ≡ 0) × ((kind_of k).lengthens ≡ 0)
+  uncompared (Call.Added n) h = (refl, refl, refl)
+  uncompared Call.TakeSourceError h = (refl, refl, refl)
+  uncompared Call.Open h = (refl, refl, refl)
+  uncompared Call.Close h = (refl, refl, refl)
+  uncompared _ h = absurd (never (sym h))
 
-listed_bare : (reach : ℕ) (ks : List Call) → Roomless reach ks → Listed reach (map bare ks)
-unfolding bare
-listed_bare reach [] h = tt
-listed_bare reach (k ∷ ks) (_, plain, here, more) = (plain, here, listed_bare (max reach (sort_of k).lengthens) ks more)
+  listed : (es : List (Entry C)) (reach : ℕ) → Roomless reach (called es) → IsReadingList reach es
+  listed [] reach h = tt
+  listed (e ∷ es) reach h = go (kind_of e.call).compared refl (listed es) h
+    where
+      go : (b : Bool) → (kind_of e.call).compared ≡ b → ((r : ℕ) → Roomless r (called es) → IsReadingList r es)
+          → Roomless reach (map (λ x. x.call) (cond b (e ∷ compared_entries es) (compared_entries es))) → IsReadingList reach (e ∷ es)
+      go true c rest (_, plain, here, more) = (plain, here, rest _ more)
+      go false c rest more =
+          let (plain, none, short) = uncompared e.call c in
+          let stays : reach ≡ max reach (kind_of e.call).lengthens = omega (arith, short) in
+          (plain, omega (arith, none), rest _ (subst (λ n. Roomless n (called es)) stays more))
 
-pub roomless : {H K : Type 0} (ls ms : List Line) (v : View H) (u : View K) → Same ls ms v u → called ls ≡ called ms → Roomless 0 (called ls) → v.ahead ≡ u.ahead → said ls ≡ said ms
-roomless ls ms v u same c h e =
-    let one = calls_bare ls 0 h in
-    let other = calls_bare ms 0 (subst (λ (ks : List Call). Roomless 0 ks) c h) in
-    said_got ls
-    ∙ ap (map (λ (g : Got). g.answer))
-    (same (one ∙ ap (map bare) c ∙ sym other) (subst (λ (gs : List Given). Listed 0 gs) (sym one) (listed_bare 0 (called ls) h)) e)
-    ∙ sym (said_got ms)
+pub roomless : {C H K : Type 0} (ls ms : List (Entry C)) (v : View H) (u : View K) → SameAnswers ls ms v u → called ls ≡ called ms → Roomless 0 (called ls) → v.ahead ≡ u.ahead → said ls ≡ said ms
+roomless {C} ls ms v u same c h e =
+    let one = calls_bare (compared_entries ls) 0 h in
+    let other = calls_bare (compared_entries ms) 0 (subst (λ (ks : List (Call C)). Roomless 0 ks) c h) in
+    said_got (compared_entries ls) ∙ ap (map (λ (g : (ℕ × List ℕ) × List ℕ). g.0)) (same (one ∙ ap (map bare) c ∙ sym other) (listed ls 0 h) e) ∙ sym (said_got (compared_entries ms))

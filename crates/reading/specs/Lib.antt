@@ -1,4 +1,2 @@
-pub mod Line
-pub mod Sorts
 pub mod Reading
-pub mod Beside
+pub mod SameReadings

@@ -1,9 +1,5 @@
-//! Reading lists: calls and answers as values, and what holds of two inputs that are taken through
-//! one list.
+//! Reading lists: what holds of two inputs that are taken through one list of calls.
 #![tactic(auto)]
 
-pub mod call;
 pub mod list;
 pub mod made;
-pub mod perform;
-pub mod scanner;

@@ -1,57 +1,53 @@
 //! Inputs taken through lists.
 
-ghost use Rattle.std.specs.Prelude.{◌≡◌, is_some};
-ghost use Rattle.reading.specs.Reading.{log_of, SameCalls, Ran, Same, Account, open_after};
+ghost use Rattle.reading.specs.Reading.{ReadsList, SideBySide, side};
 
-use crate::call::Step;
-use crate::perform::perform;
-use crate::scanner::{ByCharacter, Own, Scanner};
+use calls::{ByCharacter, Own, Scanner, Step, perform};
+use char_traits::class::Class;
 use input::Input;
 use input::ticket::Reading;
-use scan::Scan;
+use runs::Scan;
 
 /// Takes one input through a list; its scanning calls are made in this way. The ticket of an open
 /// reading goes in, and what is open at the end comes out.
-#[tactic(auto, using(crate::proofs::Runs::none, crate::proofs::Runs::all, crate::proofs::Runs::open_all))]
-pub fn run_with<I: Input, S: Scanner<I>>(
+#[tactic(auto, using(crate::proofs::Runs::none))]
+pub fn run_with<C: Class + Copy, I: Input, S: Scanner<I>>(
     input: &mut I,
     held: Option<Reading>,
-    steps: &mut [Step],
+    steps: &mut [Step<C>],
 ) -> Option<Reading>
-    ensures same { SameCalls steps.old steps.new }
-    ensures ticket { is_some result ≡ open_after steps.old (is_some held) }
-    ensures ran { Ran (log_of steps.old steps.new) (I.Input.view input.old)
-        (I.Input.view input.new) }
+    ensures { ReadsList C.member (side (I.view input.old) steps.old held)
+        (side (I.view input.new) steps.new result) }
 {
     let mut held = held;
     for step in steps.iter_mut() {
-        held = perform::<I, S>(input, step, held);
+        held = perform::<C, I, S>(input, step, held);
     }
     held
 }
 
 /// Takes any input through a list; its scanning calls go character by character.
-pub fn run<I: Input>(input: &mut I, held: Option<Reading>, steps: &mut [Step]) -> Option<Reading>
-    ensures same { SameCalls steps.old steps.new }
-    ensures ticket { is_some result ≡ open_after steps.old (is_some held) }
-    ensures ran { Ran (log_of steps.old steps.new) (I.Input.view input.old)
-        (I.Input.view input.new) }
+pub fn run<C: Class + Copy, I: Input>(
+    input: &mut I,
+    held: Option<Reading>,
+    steps: &mut [Step<C>],
+) -> Option<Reading>
+    ensures { ReadsList C.member (side (I.view input.old) steps.old held)
+        (side (I.view input.new) steps.new result) }
 {
-    run_with::<I, ByCharacter>(input, held, steps)
+    run_with::<C, I, ByCharacter>(input, held, steps)
 }
 
 /// Takes an input that scans through a list, by its own scanning calls.
-pub fn run_scanning<I: Scan>(
+pub fn run_scanning<C: Class + Copy, I: Scan>(
     input: &mut I,
     held: Option<Reading>,
-    steps: &mut [Step],
+    steps: &mut [Step<C>],
 ) -> Option<Reading>
-    ensures same { SameCalls steps.old steps.new }
-    ensures ticket { is_some result ≡ open_after steps.old (is_some held) }
-    ensures ran { Ran (log_of steps.old steps.new) (I.Input.view input.old)
-        (I.Input.view input.new) }
+    ensures { ReadsList C.member (side (I.view input.old) steps.old held)
+        (side (I.view input.new) steps.new result) }
 {
-    run_with::<I, Own>(input, held, steps)
+    run_with::<C, I, Own>(input, held, steps)
 }
 
 /// Takes two inputs, each of any kind, through a list each; the scanning calls of each are made in
@@ -59,75 +55,53 @@ pub fn run_scanning<I: Scan>(
 ///
 /// Lists that differ in added lookaheads alone get the same answers, and the same bytes in their
 /// rooms, of inputs that have the same ahead; for each input, what its calls took and what is still
-/// ahead is what was ahead, a closing tells whole only once all is taken, and the ending is met when
-/// due, told once and closed with.
-#[tactic(auto, using(crate::proofs::Courses::account, crate::proofs::Alike::alike))]
-pub fn side_by_side_with<L: Input, R: Input, S: Scanner<L>, T: Scanner<R>>(
+/// ahead is what was ahead, a closing tells whole only once all is taken, and the ending is met
+/// when due, told once and closed with.
+pub fn side_by_side_with<C: Class + Copy, L: Input, R: Input, S: Scanner<L>, T: Scanner<R>>(
     left: &mut L,
     right: &mut R,
-    one: &mut [Step],
-    other: &mut [Step],
+    one: &mut [Step<C>],
+    other: &mut [Step<C>],
     held: Option<Reading>,
     beside: Option<Reading>,
 ) -> (Option<Reading>, Option<Reading>)
-    ensures one { SameCalls one.old one.new }
-    ensures other { SameCalls other.old other.new }
-    ensures held { is_some result.0 ≡ open_after one.old (is_some held) }
-    ensures beside { is_some result.1 ≡ open_after other.old (is_some beside) }
-    ensures same { Same (log_of one.old one.new) (log_of other.old other.new)
-        (L.Input.view left.old) (R.Input.view right.old) }
-    ensures left { Account (log_of one.old one.new) (L.Input.view left.old)
-        (L.Input.view left.new) }
-    ensures right { Account (log_of other.old other.new) (R.Input.view right.old)
-        (R.Input.view right.new) }
+    ensures { SideBySide C.member
+        (side (L.view left.old) one.old held) (side (L.view left.new) one.new result.0)
+        (side (R.view right.old) other.old beside) (side (R.view right.new) other.new result.1) }
 {
-    let held = run_with::<L, S>(left, held, one);
-    let beside = run_with::<R, T>(right, beside, other);
+    let held = run_with::<C, L, S>(left, held, one);
+    let beside = run_with::<C, R, T>(right, beside, other);
     (held, beside)
 }
 
 /// Takes any two inputs through a list each; their scanning calls go character by character.
-pub fn side_by_side<L: Input, R: Input>(
+pub fn side_by_side<C: Class + Copy, L: Input, R: Input>(
     left: &mut L,
     right: &mut R,
-    one: &mut [Step],
-    other: &mut [Step],
+    one: &mut [Step<C>],
+    other: &mut [Step<C>],
     held: Option<Reading>,
     beside: Option<Reading>,
 ) -> (Option<Reading>, Option<Reading>)
-    ensures one { SameCalls one.old one.new }
-    ensures other { SameCalls other.old other.new }
-    ensures held { is_some result.0 ≡ open_after one.old (is_some held) }
-    ensures beside { is_some result.1 ≡ open_after other.old (is_some beside) }
-    ensures same { Same (log_of one.old one.new) (log_of other.old other.new)
-        (L.Input.view left.old) (R.Input.view right.old) }
-    ensures left { Account (log_of one.old one.new) (L.Input.view left.old)
-        (L.Input.view left.new) }
-    ensures right { Account (log_of other.old other.new) (R.Input.view right.old)
-        (R.Input.view right.new) }
+    ensures { SideBySide C.member
+        (side (L.view left.old) one.old held) (side (L.view left.new) one.new result.0)
+        (side (R.view right.old) other.old beside) (side (R.view right.new) other.new result.1) }
 {
-    side_by_side_with::<L, R, ByCharacter, ByCharacter>(left, right, one, other, held, beside)
+    side_by_side_with::<C, L, R, ByCharacter, ByCharacter>(left, right, one, other, held, beside)
 }
 
 /// Takes two inputs that scan through a list each, by their own scanning calls.
-pub fn side_by_side_scanning<L: Scan, R: Scan>(
+pub fn side_by_side_scanning<C: Class + Copy, L: Scan, R: Scan>(
     left: &mut L,
     right: &mut R,
-    one: &mut [Step],
-    other: &mut [Step],
+    one: &mut [Step<C>],
+    other: &mut [Step<C>],
     held: Option<Reading>,
     beside: Option<Reading>,
 ) -> (Option<Reading>, Option<Reading>)
-    ensures one { SameCalls one.old one.new }
-    ensures other { SameCalls other.old other.new }
-    ensures held { is_some result.0 ≡ open_after one.old (is_some held) }
-    ensures beside { is_some result.1 ≡ open_after other.old (is_some beside) }
-    ensures same { Same (log_of one.old one.new) (log_of other.old other.new)
-        (L.Input.view left.old) (R.Input.view right.old) }
-    ensures left { Account (log_of one.old one.new) (L.Input.view left.old)
-        (L.Input.view left.new) }
-    ensures right { Account (log_of other.old other.new) (R.Input.view right.old)
-        (R.Input.view right.new) }
+    ensures { SideBySide C.member
+        (side (L.view left.old) one.old held) (side (L.view left.new) one.new result.0)
+        (side (R.view right.old) other.old beside) (side (R.view right.new) other.new result.1) }
 {
-    side_by_side_with::<L, R, Own, Own>(left, right, one, other, held, beside)
+    side_by_side_with::<C, L, R, Own, Own>(left, right, one, other, held, beside)
 }

@@ -1,11 +1,12 @@
--- A row of places, shifted down. Assumes nothing.
+-- A row of places, shifted down.
 use Rattle.std.proofs.Common.{◌≡◌, ℕ, zero, suc, ◌-◌, ◌<◌, ◌≤◌, true, List, [], ◌∷◌, ◌++◌, length, get_or, take, drop, sym, refl, ap, ◌∙◌, arith}
 use lib.Utf8.{scalar, scalars}
 use Rattle.std.proofs.lemmas.List.{take-append-le}
 use Rattle.std.proofs.lemmas.Bool.{and_parts}
 use Rattle.input.specs.Held.{held_characters, scalars_take}
 
-pub shifted : (n : ℕ) (xs : List ℕ) → 0 < n → n ≤ length xs → take n xs ≡ get_or xs 0 0 ∷ take (n - 1) (drop 1 xs ++ take 1 xs)
+pub shifted : (n : ℕ) (xs : List ℕ) → 0 < n → n ≤ length xs
+    → take n xs ≡ get_or xs 0 0 ∷ take (n - 1) (drop 1 xs ++ take 1 xs)
 shifted zero xs h l = absurd (omega arith)
 shifted (suc n) [] h l = absurd (omega arith)
 shifted (suc n) (x ∷ xs) h l =

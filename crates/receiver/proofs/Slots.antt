@@ -1,4 +1,4 @@
--- A count of slots fits a place. Assumes nothing.
+-- A count of slots fits a place.
 use Rattle.std.proofs.Common.{ℕ, ◌<◌, ◌≤◌, arith}
 use Rattle.error.specs.Limit.{place_fits}
 use Rattle.receiver.specs.SlotLimit.{slot_limit, slots_fit}

@@ -1,6 +1,9 @@
 pub mod SlotLimit
 pub mod Packets
+pub mod PacketsLaws
 pub mod Hold
 pub mod Drawn
 pub mod Stash
+pub mod StashLaws
 pub mod Quote
+pub mod QuoteLaws

@@ -1,4 +1,4 @@
--- The most slots that packets may have. It is cited by its name and its law, so that it can move. Assumes nothing.
+-- The most slots that packets may have, cited by name and law, so that it can move.
 use Rattle.std.specs.Prelude.{ℕ, ◌*◌, ◌≤◌}
 use Rattle.std.proofs.Common.{arith}
 use Rattle.error.specs.Limit.{text_limit}

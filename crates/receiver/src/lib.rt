@@ -1,17 +1,17 @@
-//! A receiver, made with public interfaces alone: packets with gaps as a failing source, and a stash before any failing source as an input.
+//! A receiver, made with public interfaces alone: packets with gaps as a failing source, and a
+//! stash before any failing source as an input.
 #![tactic(auto)]
 
-pub mod beside;
-mod draw;
+mod beside;
 mod drawn;
 mod hold;
-pub mod made;
-pub mod packets;
-pub mod packets_source;
-pub mod quote;
-mod shift;
-pub mod stash;
-pub mod stash_input;
-pub mod stash_scan;
+mod packets;
+mod quote;
+mod stash;
 #[cfg(test)]
 mod tests;
+
+pub use crate::beside::receive_beside;
+pub use crate::packets::{Packets, SLOT_LIMIT, Slot};
+pub use crate::quote::UntilQuote;
+pub use crate::stash::Stash;

@@ -1,7 +1,8 @@
 //! A set of characters that is told by a value.
 
 ghost use Rattle.std.specs.Prelude.{◌≡◌};
-ghost use Rattle.receiver.specs.Quote.{until_quote, until_nul};
+ghost use Rattle.receiver.specs.Quote.{until_quote};
+ghost use Rattle.receiver.specs.QuoteLaws.{until_nul};
 
 use char_traits::class::Class;
 use char_traits::is_breakz;

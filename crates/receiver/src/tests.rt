@@ -4,12 +4,12 @@ use crate::beside::receive_beside;
 use crate::packets::Packets;
 use crate::quote::UntilQuote;
 use crate::stash::Stash;
+use calls::{Answer, Call, NoClass, ScanCall, SkipCall, Step};
 use error::{Fault, FaultKind};
 use input::Input;
 use input::ticket::Reading;
-use reading::call::{Answer, Call, Step};
 use runs::calls::skip_while;
-use source::codes::{Codes, CodesEnding};
+use source::{Codes, CodesEnding};
 use std::test::Fail;
 
 const LOST: Fault = Fault {
@@ -17,14 +17,14 @@ const LOST: Fault = Fault {
     place: 2,
 };
 
-fn character(step: &Step) -> Option<char> {
+fn character(step: &Step<NoClass>) -> Option<char> {
     match step.answer {
         Answer::Character(c) => Some(c),
         _ => None,
     }
 }
 
-fn fault(step: &Step) -> Option<Fault> {
+fn fault(step: &Step<NoClass>) -> Option<Fault> {
     match step.answer {
         Answer::Asked(fault) => fault,
         _ => None,
@@ -34,8 +34,7 @@ fn fault(step: &Step) -> Option<Fault> {
 #[test]
 fn same_answers(rt: HostRuntime) -> Result<(), Fail> {
     let slots = [None, Some('a'), None, Some('b')];
-    let mut packets = Packets::new();
-    packets.load(&slots, CodesEnding::InputIo)?;
+    let packets = Packets::of(&slots, CodesEnding::InputIo)?;
     let mut left = Stash::new(packets);
     let mut codes = Codes::new();
     codes.load(&[0x61, 0x62], CodesEnding::InputIo)?;
@@ -66,7 +65,7 @@ fn same_answers(rt: HostRuntime) -> Result<(), Fail> {
     Ok(())
 }
 
-fn asked_twice() -> [Step; 3] {
+fn asked_twice() -> [Step<NoClass>; 3] {
     [
         Step::new(Call::SkipN(3)),
         Step::new(Call::TakeSourceError),
@@ -77,8 +76,7 @@ fn asked_twice() -> [Step; 3] {
 #[test]
 fn fault_once(rt: HostRuntime) -> Result<(), Fail> {
     let slots = [Some('a'), None, Some('b'), None];
-    let mut packets = Packets::new();
-    packets.load(&slots, CodesEnding::InputIo)?;
+    let packets = Packets::of(&slots, CodesEnding::InputIo)?;
     let mut left = Stash::new(packets);
     let mut codes = Codes::new();
     codes.load(&[0x61, 0x62], CodesEnding::InputIo)?;
@@ -98,8 +96,7 @@ fn fault_once(rt: HostRuntime) -> Result<(), Fail> {
 #[test]
 fn met_early(rt: HostRuntime) -> Result<(), Fail> {
     let slots = [Some('a'), Some('b')];
-    let mut packets = Packets::new();
-    packets.load(&slots, CodesEnding::InputIo)?;
+    let packets = Packets::of(&slots, CodesEnding::InputIo)?;
     let stash = Stash::new(packets);
     assert_eq!(rt; stash.met_fault(), Some(LOST));
     assert_eq!(rt; stash.peek_nth(1), 'b');
@@ -109,10 +106,31 @@ fn met_early(rt: HostRuntime) -> Result<(), Fail> {
 #[test]
 fn skipped_to_quote(rt: HostRuntime) -> Result<(), Fail> {
     let slots = [Some('a'), None, Some('\''), Some('b'), Some('"'), Some('c')];
-    let mut packets = Packets::new();
-    packets.load(&slots, CodesEnding::Clean)?;
+    let packets = Packets::of(&slots, CodesEnding::Clean)?;
     let mut stash = Stash::new(packets);
     assert_eq!(rt; skip_while(&mut stash, &UntilQuote::new('"')), 3);
     assert_eq!(rt; stash.peek_nth(0), '"');
+    Ok(())
+}
+
+// A class from outside stands under the theorem of two lists.
+#[test]
+fn quote_beside(rt: HostRuntime) -> Result<(), Fail> {
+    let slots = [Some('a'), None, Some('"'), Some('b')];
+    let packets = Packets::of(&slots, CodesEnding::Clean)?;
+    let mut left = Stash::new(packets);
+    let mut codes = Codes::new();
+    codes.load(&[0x61, 0x22, 0x62], CodesEnding::Clean)?;
+    let mut right = Stash::new(codes);
+    let skip = Call::Scan(ScanCall::SkipRun(SkipCall::While(UntilQuote::new('"'))));
+    let mut one = [Step::new(skip), Step::new(Call::Read)];
+    let mut two = [Step::new(skip), Step::new(Call::Read)];
+    let (held, beside) = receive_beside(&mut left, &mut right, &mut one, &mut two, None, None);
+    let _ = Reading::close_held(held, &mut left);
+    let _ = Reading::close_held(beside, &mut right);
+    assert!(rt; matches!(one[0].answer, Answer::Count(1)));
+    assert!(rt; matches!(two[0].answer, Answer::Count(1)));
+    assert!(rt; matches!(one[1].answer, Answer::Character('"')));
+    assert!(rt; matches!(two[1].answer, Answer::Character('"')));
     Ok(())
 }

@@ -1,4 +1,4 @@
--- Each list leaves less to answer. Assumes nothing.
+-- Each list leaves less to answer.
 use Rattle.std.proofs.Common.{ℕ, ◌+◌, ◌<◌, List, length, Some, None, Option, ap, arith}
 use Rattle.std.specs.Borrow.{Bor}
 use Rattle.player.specs.Lines.{Leaves}

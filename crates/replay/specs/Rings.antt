@@ -1,4 +1,4 @@
--- What a ring of the replay is made of. Assumes nothing.
+-- What a ring of the replay is made of.
 use Rattle.std.specs.Prelude.{ℕ, List}
 use Rattle.error.specs.Numbers.{Ending}
 use Rattle.input.specs.View.{Making}

@@ -1,4 +1,5 @@
-//! Reads commands from its standard input, one a line, performs them on inputs, and answers each in a line.
+//! Reads commands from its standard input, one a line, performs them on inputs, and answers each in
+//! a line.
 #![tactic(auto)]
 
 ghost use Rattle.std.specs.Prelude.{IfOk};
@@ -6,16 +7,15 @@ ghost use Rattle.player.specs.Lines.{Leaves};
 
 mod kinds;
 
-use answers::answer::Answer;
 use kinds::{on, ring_of_bytes, ring_of_codes, ring_of_text, slice};
-use player::desk::Desk;
-use player::list::{Lines, idle};
-use protocol::make::{Make, parse_new};
+use player::{Desk, Lines, idle};
+use protocol::{Make, Reply, parse_new};
 use std::io;
 use std::io::Read;
 use std::process::ExitCode;
 
-/// The list that begins with a line for a new input. Tells the line that asks for the next, or that there is none.
+/// The list that begins with a line for a new input. Tells the line that asks for the next, or that
+/// there is none.
 fn list<'b>(
     rt: &HostRuntime,
     line: &[u8],
@@ -26,7 +26,7 @@ fn list<'b>(
 {
     match parse_new(rt.alloc(), line)? {
         None => {
-            desk.begin(Answer::Bad)?;
+            desk.begin(Reply::Bad)?;
             idle(rt, lines, desk)
         }
         Some(Make::Slice(bytes)) => on(rt, slice(bytes.as_slice()), lines, desk),

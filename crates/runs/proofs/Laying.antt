@@ -1,22 +1,16 @@
--- Bytes laid into a room. Assumes nothing.
-use Rattle.std.proofs.Common.{◌≡◌, ℕ, ◌+◌, ◌-◌, ◌<◌, ◌≤◌, Bool, cond, List, [], ◌∷◌, ◌++◌, length, get_or, take, drop, sym, ap, ◌∙◌, inl, inr, append_assoc, arith, length-append, length-drop, take-append-drop, take_at}
+-- Bytes laid into a room.
+use Rattle.std.proofs.Common.{◌≡◌, ℕ, ◌+◌, ◌-◌, ◌<◌, ◌≤◌, Bool, cond, List, [], ◌∷◌, ◌++◌, length, get_or, take, drop, sym, ap, ◌∙◌, inl, inr, append_assoc, arith, length-append, length-drop, take_at}
 use lib.Seq.{drop-append-add}
 use lib.Utf8.{encode}
 use Rattle.std.proofs.lemmas.List.{drop-drop, length-take-le}
 use Rattle.std.proofs.lemmas.Bool.{cases_lt, le-leb, lt-leb}
 use Rattle.error.specs.Numbers.{number}
-use Rattle.error.specs.declared.FaultKind.{FaultKind}
-use Rattle.error.specs.declared.FaultKind.TheVariants.{InputIo, InputDecoding}
-use Rattle.error.specs.Numbers.{kind_number}
 use Rattle.error.specs.declared.Refusal.{Refusal}
-use Rattle.error.specs.declared.Refusal.TheVariants.{TooLong, IllFormed, NotACharacter, NarrowWindow, CommentNotSeparated, BeyondRoom, RoomFull, Source}
-use Rattle.utf8.specs.Room.{laid, Appends}
-use Rattle.runs.specs.Rooms.{fitting}
+use Rattle.error.proofs.Numbered.{refusal_some}
+use Rattle.utf8.specs.Room.{overlay, Appends}
+use Rattle.runs.specs.Rooms.{front_that_fits}
 
-pub laid_none : (xs : List ℕ) (at : ℕ) → laid xs at [] ≡ xs
-laid_none xs at = ap (λ k. take at xs ++ drop k xs) (omega arith) ∙ take-append-drop at xs
-
-pub laid_length : (xs : List ℕ) (at : ℕ) (a : List ℕ) → at + length a ≤ length xs → length (laid xs at a) ≡ length xs
+pub laid_length : (xs : List ℕ) (at : ℕ) (a : List ℕ) → at + length a ≤ length xs → length (overlay xs at a) ≡ length xs
 laid_length xs at a h =
     let l = length-append (take at xs) (a ++ drop (at + length a) xs) in
     let m = length-append a (drop (at + length a) xs) in
@@ -25,33 +19,33 @@ laid_length xs at a h =
     omega arith
 
 -- one after the other
-pub laid_both : (xs : List ℕ) (at : ℕ) (a b : List ℕ) → at + length a ≤ length xs → laid (laid xs at a) (at + length a) b ≡ laid xs at (a ++ b)
+pub laid_both : (xs : List ℕ) (at : ℕ) (a b : List ℕ) → at + length a ≤ length xs → overlay (overlay xs at a) (at + length a) b ≡ overlay xs at (a ++ b)
 laid_both xs at a b h =
     let m : ℕ = at + length a in
     let front : List ℕ = take at xs ++ a in
     let back : List ℕ = drop m xs in
     let len : length front ≡ m = length-append (take at xs) a ∙ ap (λ k. k + length a) (length-take-le at xs (omega arith)) in
-    let whole : laid xs at a ≡ front ++ back = sym (append_assoc (take at xs) a back) in
+    let whole : overlay xs at a ≡ front ++ back = sym (append_assoc (take at xs) a back) in
     let one : take m (front ++ back) ≡ front = take_at front back m len in
     let two : drop (m + length b) (front ++ back) ≡ drop (at + length (a ++ b)) xs =
     ap (λ k. drop (k + length b) (front ++ back)) (sym len) ∙ drop-append-add front back (length b) ∙ drop-drop (length b) m xs
     ∙ ap (λ k. drop k xs) (let e = length-append a b in omega arith) in
-    ap (λ (l : List ℕ). laid l m b) whole
+    ap (λ (l : List ℕ). overlay l m b) whole
     ∙ (λ i. one i ++ (b ++ two i))
     ∙ append_assoc (take at xs) a (b ++ drop (at + length (a ++ b)) xs)
     ∙ ap (λ r. take at xs ++ r) (sym (append_assoc a b (drop (at + length (a ++ b)) xs)))
 
-pub fit_one : (free c : ℕ) (cs : List ℕ) → length (encode c) ≤ free → fitting free (c ∷ cs) ≡ c ∷ fitting (free - length (encode c)) cs
-fit_one free c cs h = ap (λ (b : Bool). cond b (c ∷ fitting (free - length (encode c)) cs) []) (le-leb (length (encode c)) free h)
+pub fit_one : (free c : ℕ) (cs : List ℕ) → length (encode c) ≤ free → front_that_fits free (c ∷ cs) ≡ c ∷ front_that_fits (free - length (encode c)) cs
+fit_one free c cs h = ap (λ (b : Bool). cond b (c ∷ front_that_fits (free - length (encode c)) cs) []) (le-leb (length (encode c)) free h)
 
-pub fit_none : (free c : ℕ) (cs : List ℕ) → free < length (encode c) → fitting free (c ∷ cs) ≡ []
-fit_none free c cs h = ap (λ (b : Bool). cond b (c ∷ fitting (free - length (encode c)) cs) []) (lt-leb (length (encode c)) free h)
+pub fit_none : (free c : ℕ) (cs : List ℕ) → free < length (encode c) → front_that_fits free (c ∷ cs) ≡ []
+fit_none free c cs h = ap (λ (b : Bool). cond b (c ∷ front_that_fits (free - length (encode c)) cs) []) (lt-leb (length (encode c)) free h)
 
 -- what was appended, where it was not refused
 pub record Appended (bytes old : List ℕ) (filled next : ℕ) (new : List ℕ) : Type 0 where
   pub fits : filled + length bytes ≤ length old
   pub end : next ≡ filled + length bytes
-  pub lies : new ≡ laid old filled bytes
+  pub lies : new ≡ overlay old filled bytes
 
 pub appended : (bytes old : List ℕ) (filled next : ℕ) (new : List ℕ) → filled ≤ length old → Appends bytes old filled (0, next ∷ []) new → Appended bytes old filled next new
 appended bytes old filled next new h a =
@@ -59,20 +53,6 @@ appended bytes old filled next new h a =
       | inl l ↦ absurd (omega (arith, ap (λ (x : ℕ × List ℕ). x.0) (a.full h l).0))
       | inr l ↦ (let f = a.fits l in record { fits = l; end = ap (λ (x : ℕ × List ℕ). get_or x.1 0 0) f.0; lies = f.1 })
     ]
-
-no_refusal : (r : Refusal) (values : List ℕ) → number r ≡ (0, values) → ⊥
-no_refusal TooLong values e = omega (arith, ap (λ (x : ℕ × List ℕ). x.0) e)
-no_refusal (IllFormed place) values e = omega (arith, ap (λ (x : ℕ × List ℕ). x.0) e)
-no_refusal NotACharacter values e = omega (arith, ap (λ (x : ℕ × List ℕ). x.0) e)
-no_refusal NarrowWindow values e = omega (arith, ap (λ (x : ℕ × List ℕ). x.0) e)
-no_refusal CommentNotSeparated values e = omega (arith, ap (λ (x : ℕ × List ℕ). x.0) e)
-no_refusal BeyondRoom values e = omega (arith, ap (λ (x : ℕ × List ℕ). x.0) e)
-no_refusal RoomFull values e = omega (arith, ap (λ (x : ℕ × List ℕ). x.0) e)
-no_refusal (Source fault) values e = kind fault.kind (ap (λ (x : ℕ × List ℕ). x.0) e)
-  where
-    kind : (k : FaultKind) → kind_number k ≡ 0 → ⊥
-    kind InputIo e = omega arith
-    kind InputDecoding e = omega arith
 
 pub record Full (bytes old : List ℕ) (filled : ℕ) (r : Refusal) (new : List ℕ) : Type 0 where
   pub wide : length old < filled + length bytes
@@ -83,5 +63,5 @@ pub full : (bytes old : List ℕ) (filled : ℕ) (r : Refusal) (new : List ℕ) 
 full bytes old filled r new h a =
     elim (cases_lt (length old) (filled + length bytes)) [
       | inl l ↦ (let f = a.full h l in record { wide = l; is = f.0; same = f.1 })
-      | inr l ↦ absurd (no_refusal r _ (a.fits l).0)
+      | inr l ↦ absurd (refusal_some r (ap (λ (x : ℕ × List ℕ). x.0) (a.fits l).0))
     ]

@@ -1,9 +1,9 @@
+pub mod Longest
 pub mod Fronts
 pub mod Running
 pub mod Laying
-pub mod Fetching
 pub mod Asking
+pub mod Fetching
 pub mod Chunks
 pub mod Skipping
 pub mod Eol
-pub mod Longest

@@ -1,4 +1,4 @@
--- Runs, and what fits, are the longest fronts of their kind. Assumes nothing.
+-- Runs, and what fits, are the longest fronts of their kind.
 use Rattle.std.proofs.Common.{◌≡◌, ℕ, zero, suc, ◌+◌, ◌-◌, ◌≤◌, Bool, true, false, cond, not, ◌&&◌, ◌||◌, eqb, leb, List, [], ◌∷◌, length, get_or, take, sym, refl, ap, ◌∙◌, arith, length-append, eq-eqb, eqb-true, le-leb, leb-true}
 use lib.Utf8.{encode, encodes}
 use Rattle.std.proofs.lemmas.Bool.{and_parts}
@@ -6,12 +6,12 @@ use Rattle.char_traits.specs.Chars.{plain_safe}
 use Rattle.input.proofs.Keeping.{never}
 use Rattle.runs.specs.declared.Colon.TheVariants.{Free, Leads}
 use Rattle.runs.specs.Laws.{LongestFront, GoesOn, OfClass, Plain, Fits}
-use Rattle.runs.specs.Rooms.{fitting}
+use Rattle.runs.specs.Rooms.{front_that_fits}
 use Rattle.runs.specs.Runs.{goes, run_by, run_of, plain_run}
 
 -- none where it holds of no first one
 none : (Holds : ℕ → Type 0) (ahead : List ℕ) → Holds 0 → ((n : ℕ) → Holds (suc n) → ⊥) → LongestFront Holds ahead []
-none Holds ahead zeroth not_first = record { front = refl; holds = zeroth; longest = λ n _ all. longest n all }
+none Holds ahead zeroth not_first = record { front = (ahead, refl); holds = zeroth; longest = λ n _ all. longest n all }
   where
     longest : (n : ℕ) → Holds n → n ≤ 0
     longest zero all = omega arith
@@ -21,7 +21,7 @@ none Holds ahead zeroth not_first = record { front = refl; holds = zeroth; longe
 longer : (Rest Holds : ℕ → Type 0) (c : ℕ) (ahead run : List ℕ) → ((n : ℕ) → Rest n → Holds (suc n)) → ((n : ℕ) → Holds (suc n) → Rest n) → LongestFront Rest ahead run
     → LongestFront Holds (c ∷ ahead) (c ∷ run)
 longer Rest Holds c ahead run more less rest =
-    record { front = ap (λ xs. c ∷ xs) rest.front; holds = more (length run) rest.holds; longest = longest }
+    record { front = (rest.front.0, ap (λ xs. c ∷ xs) rest.front.1); holds = more (length run) rest.holds; longest = longest }
   where
     longest : (n : ℕ) → n ≤ length (c ∷ ahead) → Holds n → n ≤ length (c ∷ run)
     longest zero h all = omega arith
@@ -31,7 +31,7 @@ after : (c i : ℕ) (a : List ℕ) → get_or (c ∷ a) (suc i + 1) 0 ≡ get_or
 after c i a = let e : suc i + 1 ≡ suc (i + 1) = omega arith in ap (λ k. get_or (c ∷ a) k 0) e
 
 pub run_longest : (go : ℕ → ℕ → Bool) (ahead : List ℕ) → LongestFront (GoesOn go ahead) ahead (run_by go ahead)
-run_longest go [] = record { front = refl; holds = λ i h. absurd (omega arith); longest = λ n h _. h }
+run_longest go [] = record { front = ([], refl); holds = λ i h. absurd (omega arith); longest = λ n h _. h }
 run_longest go (c ∷ a) = step (go c (get_or a 0 0)) refl (run_longest go a)
   where
     more : go c (get_or a 0 0) ≡ true → (n : ℕ) → GoesOn go a n → GoesOn go (c ∷ a) (suc n)
@@ -77,15 +77,15 @@ plain_longest in_flow ahead =
 one_more : (c n : ℕ) (cs : List ℕ) → length (encodes (take (suc n) (c ∷ cs))) ≡ length (encode c) + length (encodes (take n cs))
 one_more c n cs = length-append (encode c) (encodes (take n cs))
 
-pub fitting_longest : (free : ℕ) (cs : List ℕ) → LongestFront (Fits free cs) cs (fitting free cs)
-fitting_longest free [] = record { front = refl; holds = omega arith; longest = λ n h _. h }
+pub fitting_longest : (free : ℕ) (cs : List ℕ) → LongestFront (Fits free cs) cs (front_that_fits free cs)
+fitting_longest free [] = record { front = ([], refl); holds = omega arith; longest = λ n h _. h }
 fitting_longest free (c ∷ cs) = step (leb (length (encode c)) free) refl (fitting_longest (free - length (encode c)) cs)
   where
-    step : (b : Bool) → leb (length (encode c)) free ≡ b → LongestFront (Fits (free - length (encode c)) cs) cs (fitting (free - length (encode c)) cs)
-        → LongestFront (Fits free (c ∷ cs)) (c ∷ cs) (cond b (c ∷ fitting (free - length (encode c)) cs) [])
+    step : (b : Bool) → leb (length (encode c)) free ≡ b → LongestFront (Fits (free - length (encode c)) cs) cs (front_that_fits (free - length (encode c)) cs)
+        → LongestFront (Fits free (c ∷ cs)) (c ∷ cs) (cond b (c ∷ front_that_fits (free - length (encode c)) cs) [])
     step true e rest =
         let wide : length (encode c) ≤ free = leb-true _ _ e in
-        longer (Fits (free - length (encode c)) cs) (Fits free (c ∷ cs)) c cs (fitting (free - length (encode c)) cs)
+        longer (Fits (free - length (encode c)) cs) (Fits free (c ∷ cs)) c cs (front_that_fits (free - length (encode c)) cs)
         (λ n h. omega (arith, one_more c n cs)) (λ n h. omega (arith, one_more c n cs)) rest
     step false e rest =
         none (Fits free (c ∷ cs)) (c ∷ cs) (omega arith)

@@ -1,10 +1,13 @@
--- A run as far as it was taken. Assumes nothing.
-use Rattle.std.proofs.Common.{◌≡◌, ℕ, zero, suc, ◌+◌, ◌-◌, ◌<◌, ◌≤◌, Bool, true, false, cond, ◌&&◌, ltb, List, [], ◌∷◌, length, get_or, take, drop, is_some, Some, None, Option, sym, refl, ap, ◌∙◌, subst, arith, length-drop, drop-drop, lt-ltb, le-ltb}
+-- A run as far as it was taken.
+use Rattle.std.proofs.Common.{◌≡◌, ℕ, suc, ◌+◌, ◌-◌, ◌<◌, ◌≤◌, Bool, true, false, cond, ◌&&◌, ltb, List, [], ◌∷◌, length, get_or, take, drop, is_some, Some, None, Option, sym, refl, ap, ◌∙◌, subst, arith, length-drop, drop-drop, lt-ltb, le-ltb}
+use Rattle.std.proofs.Math.Bool.{and-false}
+use Rattle.std.proofs.Math.Seq.{take-nil}
+use Rattle.std.proofs.lemmas.List.{length-take-le}
 use Rattle.input.specs.View.{View, exactly, Keeps}
 use Rattle.input.specs.Calls.{none_left, first_of, Skips}
 use Rattle.input.proofs.Keeping.{never, both}
 use Rattle.runs.specs.Runs.{run_by}
-use Rattle.runs.specs.Scans.{Offers, Skims}
+use Rattle.runs.specs.Scans.{PeeksRun, SkipsRun}
 
 -- the first character of a run, and what the run is after it
 pub record First (go : ℕ → ℕ → Bool) (a : List ℕ) (c : ℕ) : Type 0 where
@@ -44,10 +47,6 @@ take_less most n c rest h = let e : most - n ≡ suc (most - (n + 1)) = omega ar
 pub take_over : (most n : ℕ) (rest : List ℕ) → most ≤ n → take (most - n) rest ≡ []
 take_over most n rest h = let e : most - n ≡ 0 = omega arith in ap (λ k. take k rest) e
 
-pub take_nothing : (n : ℕ) → take {A = ℕ} n [] ≡ []
-take_nothing zero = refl
-take_nothing (suc n) = refl
-
 -- what is left of a run of which n characters were taken
 abbrev pub rest_of : {H : Type 0} → (ℕ → ℕ → Bool) → ℕ → ℕ → View H → List ℕ
 rest_of go most n v = take (most - n) (run_by go v.ahead)
@@ -63,36 +62,49 @@ pub record Running {H : Type 0} (go : ℕ → ℕ → Bool) (most n : ℕ) (v w 
   pub upto : n ≤ most
   pub so_far : length (all_of go most v) ≡ n + length (rest_of go most n w)
 
-module _ {H : Type 0} (go : ℕ → ℕ → Bool) (most n : ℕ) (v u o : View H) (r : Option ℕ) (run : Running go most n v u) (offers : Offers go r u o) where
+module _ {H : Type 0} (go : ℕ → ℕ → Bool) (most n : ℕ) (v u o : View H) (r : Option ℕ) (run : Running go most n v u) (peeks : PeeksRun go r u o) where
   shorter : length o.ahead ≤ length u.ahead
-  shorter = omega (arith, ap length offers.ahead)
+  shorter = omega (arith, ap length peeks.ahead)
 
   module _ (c : ℕ) (is : Some c ≡ r) (more : n < most) where
     pub first : First go u.ahead c
-    first = first_some go u.ahead c (is ∙ offers.first)
+    first = first_some go u.ahead c (is ∙ peeks.first)
 
     -- what is left of the run before the character
     pub rest_is : (w : View H) → w.ahead ≡ drop 1 o.ahead → rest_of go most n u ≡ c ∷ rest_of go most (n + 1) w
     rest_is w e =
         ap (λ xs. take (most - n) xs) first.run
         ∙ take_less most n c (run_by go (drop 1 u.ahead)) more
-        ∙ ap (λ xs. c ∷ take (most - (n + 1)) (run_by go xs)) (ap (drop 1) (sym offers.ahead) ∙ sym e)
+        ∙ ap (λ xs. c ∷ take (most - (n + 1)) (run_by go xs)) (ap (drop 1) (sym peeks.ahead) ∙ sym e)
 
     still_there : Keeps false (exactly 0) u o
-    still_there = subst (λ (b : Bool). Keeps b (exactly 0) u o) (some_left u.ahead c first.ahead).0 offers.keeps
+    still_there = subst (λ (b : Bool). Keeps b (exactly 0) u o) (some_left u.ahead c first.ahead).0 peeks.keeps
 
     pub offered : Keeps false (exactly 0) v o
     offered = both false (exactly 0) v u o shorter run.keeps still_there
+
+    -- a next character of the run is left where it is
+    pub run_open : SkipsRun (ltb n most) (exactly 0) (take n (all_of go most v)) n v o
+    run_open =
+        let some : none_left o.ahead ≡ false = ap none_left peeks.ahead ∙ (some_left u.ahead c first.ahead).0 in
+        let no_end : false ≡ ltb n most && none_left o.ahead = sym (ap (λ b. ltb n most && b) some ∙ and-false (ltb n most)) in
+        record {
+          keeps = subst (λ (b : Bool). Keeps b (exactly 0) v o) no_end offered;
+          told = peeks.told ∙ run.told;
+          wide = omega arith;
+          number = sym (length-take-le n (all_of go most v) (omega (arith, run.so_far)));
+          ahead = peeks.ahead ∙ run.ahead;
+        }
 
     pub run_more : (w : View H) → Skips 1 o w → Running go most (n + 1) v w
     run_more w k =
         let some = (some_left u.ahead c first.ahead).1 in
         let len : length w.ahead ≤ length o.ahead = omega (arith, ap length k.ahead ∙ length-drop 1 o.ahead) in
-        let not_end : ltb (length o.ahead) 1 ≡ false = le-ltb _ _ (omega (arith, ap length offers.ahead)) in
+        let not_end : ltb (length o.ahead) 1 ≡ false = le-ltb _ _ (omega (arith, ap length peeks.ahead)) in
         record {
           keeps = both false (exactly 0) v o w len offered (subst (λ (b : Bool). Keeps b (exactly 0) o w) not_end k.keeps);
-          told = k.told ∙ offers.told ∙ run.told;
-          ahead = k.ahead ∙ ap (drop 1) (offers.ahead ∙ run.ahead) ∙ drop-drop 1 n v.ahead;
+          told = k.told ∙ peeks.told ∙ run.told;
+          ahead = k.ahead ∙ ap (drop 1) (peeks.ahead ∙ run.ahead) ∙ drop-drop 1 n v.ahead;
           upto = omega arith;
           so_far = omega (arith, run.so_far, ap length (rest_is w k.ahead));
         }
@@ -100,22 +112,22 @@ module _ {H : Type 0} (go : ℕ → ℕ → Bool) (most n : ℕ) (v u o : View H
   -- the run has ended before the count
   module _ (is : None ≡ r) (more : n < most) where
     pub gone : rest_of go most n u ≡ []
-    gone = ap (λ xs. take (most - n) xs) (first_none (run_by go u.ahead) (is ∙ offers.first)) ∙ take_nothing (most - n)
+    gone = ap (λ xs. take (most - n) xs) (first_none (run_by go u.ahead) (is ∙ peeks.first)) ∙ take-nil (most - n)
 
     pub ended : Keeps (ltb n most && none_left o.ahead) (exactly 0) v o
     ended =
         let looks : ltb n most ≡ true = lt-ltb n most more in
-        let e : none_left u.ahead ≡ ltb n most && none_left o.ahead = ap none_left (sym offers.ahead) ∙ ap (λ b. b && none_left o.ahead) (sym looks) in
-        subst (λ (b : Bool). Keeps b (exactly 0) v o) e (both (none_left u.ahead) (exactly 0) v u o shorter run.keeps offers.keeps)
+        let e : none_left u.ahead ≡ ltb n most && none_left o.ahead = ap none_left (sym peeks.ahead) ∙ ap (λ b. b && none_left o.ahead) (sym looks) in
+        subst (λ (b : Bool). Keeps b (exactly 0) v o) e (both (none_left u.ahead) (exactly 0) v u o shorter run.keeps peeks.keeps)
 
-    pub run_ended : Skims (ltb n most) (exactly 0) (all_of go most v) n v o
+    pub run_ended : SkipsRun (ltb n most) (exactly 0) (all_of go most v) n v o
     run_ended =
         record {
           keeps = ended;
-          told = offers.told ∙ run.told;
+          told = peeks.told ∙ run.told;
           wide = omega arith;
           number = omega (arith, run.so_far, ap length gone);
-          ahead = offers.ahead ∙ run.ahead;
+          ahead = peeks.ahead ∙ run.ahead;
         }
 
 -- the count is reached
@@ -124,7 +136,7 @@ module _ {H : Type 0} (go : ℕ → ℕ → Bool) (most n : ℕ) (v w : View H) 
   counted =
       subst (λ (b : Bool). Keeps (b && none_left w.ahead) (exactly 0) v w) (sym (le-ltb n most all)) run.keeps
 
-  pub run_counted : Skims (ltb n most) (exactly 0) (all_of go most v) n v w
+  pub run_counted : SkipsRun (ltb n most) (exactly 0) (all_of go most v) n v w
   run_counted =
       record {
         keeps = counted;

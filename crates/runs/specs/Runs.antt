@@ -1,4 +1,4 @@
--- Runs of characters, from the productions of YAML 1.2.2. Assumes nothing.
+-- Runs of characters, from the productions of YAML 1.2.2.
 use Rattle.std.specs.Prelude.{ℕ, Bool, false, cond, not, ◌&&◌, ◌||◌, List, [], ◌∷◌, ◌++◌, length, drop, ◌==◌, nat_lt, slice_index}
 use Rattle.char_traits.specs.Chars.{blank, not_breakz, plain_safe}
 use Rattle.input.specs.Calls.{none_left}
@@ -59,7 +59,9 @@ comment_of ahead = cond (at_hash ahead) (run_of not_breakz ahead) []
 
 -- s-b-comment without its break: a comment only after blanks
 abbrev pub eol_run : SkipTabs → List ℕ → List ℕ
-eol_run tabs ahead = blanks_of tabs ahead ++ cond (none_left (blanks_of tabs ahead)) [] (comment_of (after_blanks tabs ahead))
+eol_run tabs ahead =
+    blanks_of tabs ahead
+    ++ cond (none_left (blanks_of tabs ahead)) [] (comment_of (after_blanks tabs ahead))
 
 -- a comment with no blank before it
 abbrev pub unseparated : SkipTabs → List ℕ → Bool

@@ -3,7 +3,7 @@
 ghost use Rattle.std.specs.Prelude.{◌≡◌, ℕ, ◌<◌, Bool, true, false};
 ghost use Rattle.runs.specs.declared.Colon.TheVariants.{Free};
 ghost use Rattle.runs.specs.Runs.{goes, separates};
-ghost use Rattle.runs.specs.Scans.{Offers, SkipsBlanks, SkipsToEol};
+ghost use Rattle.runs.specs.Scans.{PeeksRun, SkipsBlanks, SkipsToEol};
 
 use crate::calls::WHOLE;
 use crate::steps::skip_run;
@@ -24,7 +24,8 @@ fn is_separator(c: char, skip_tabs: SkipTabs) -> bool
 
 /// The next character, if it is a blank to skip.
 fn next_blank<I: Input>(input: &mut I, skip_tabs: SkipTabs) -> Option<char>
-    ensures { Offers (goes (separates skip_tabs) Free) result (I.Input.view input.old) (I.Input.view input.new) }
+    ensures { PeeksRun (goes (separates skip_tabs) Free) result (I.view input.old)
+        (I.view input.new) }
 {
     match input.next_ch() {
         Some(c) if is_separator(c, skip_tabs) => Some(c),
@@ -34,8 +35,8 @@ fn next_blank<I: Input>(input: &mut I, skip_tabs: SkipTabs) -> Option<char>
 
 /// Takes the blanks ahead, tabs only if they are allowed, and tells which there were.
 pub fn skip_blanks<I: Input>(input: &mut I, skip_tabs: SkipTabs) -> (usize, WhitespaceResult)
-    ensures skips { SkipsBlanks skip_tabs result (I.Input.view input.old) (I.Input.view input.new) }
-    ensures looked { 0 < (I.Input.view input.new).window }
+    ensures skips { SkipsBlanks skip_tabs result (I.view input.old) (I.view input.new) }
+    ensures looked { 0 < (I.view input.new).window }
 {
     input.lookahead(1);
     let mut count = 0;
@@ -60,7 +61,7 @@ pub fn skip_to_eol<I: Input>(
     input: &mut I,
     skip_tabs: SkipTabs,
 ) -> (usize, Result<WhitespaceResult, Refusal>)
-    ensures { SkipsToEol skip_tabs result (I.Input.view input.old) (I.Input.view input.new) }
+    ensures { SkipsToEol skip_tabs result (I.view input.old) (I.view input.new) }
 {
     let (blanks, seen) = skip_blanks(input, skip_tabs);
     if input.peek_nth(0) != '#' {

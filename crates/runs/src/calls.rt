@@ -5,7 +5,7 @@ ghost use Rattle.input.specs.View.{exactly};
 ghost use Rattle.char_traits.specs.Chars.{not_breakz};
 ghost use Rattle.runs.specs.Runs.{run_of};
 ghost use Rattle.runs.specs.Rooms.{beyond};
-ghost use Rattle.runs.specs.Scans.{scan_look, Skims, Fetches};
+ghost use Rattle.runs.specs.Scans.{scan_look, SkipsRun, Fetches};
 
 use crate::steps::{fetch_run, skip_run};
 use crate::{Colon, Fetched};
@@ -18,9 +18,9 @@ pub(crate) const WHOLE: usize = usize::MAX;
 
 /// Takes the longest run of a class, and counts it.
 pub fn skip_while<C: Class, I: Input>(input: &mut I, class: &C) -> usize
-    ensures { let v = I.Input.view input.old in
-        Skims true (scan_look v.manner) (run_of (C.Class.member class.now) v.ahead) result v
-        (I.Input.view input.new) }
+    ensures { let v = I.view input.old in
+        SkipsRun true (scan_look v.manner) (run_of (C.member class.now) v.ahead) result v
+        (I.view input.new) }
 {
     input.lookahead(1);
     skip_run(input, class, Colon::Free, WHOLE)
@@ -34,9 +34,9 @@ pub fn fetch_while<C: Class, I: Input>(
     room: &mut [u8],
     filled: usize,
 ) -> Fetched
-    ensures fetches { let v = I.Input.view input.old in
-        Fetches true (scan_look v.manner) (run_of (C.Class.member class.now) v.ahead) room.old
-        filled result room.new v (I.Input.view input.new) }
+    ensures fetches { let v = I.view input.old in
+        Fetches true (scan_look v.manner) (run_of (C.member class.now) v.ahead) room.old
+        filled result room.new v (I.view input.new) }
     ensures untouched { beyond room.old filled ≡ true → input.new ≡ input.old }
 {
     if filled > room.len() {
@@ -49,9 +49,9 @@ pub fn fetch_while<C: Class, I: Input>(
 /// Takes all up to a breakz or the end, appends it to a room, and asks for no lookahead.
 #[tactic(auto, using(crate::proofs::Asking::fetch_beyond, crate::proofs::Asking::within))]
 pub fn fetch_line<I: Input>(input: &mut I, room: &mut [u8], filled: usize) -> Fetched
-    ensures fetches { let v = I.Input.view input.old in
+    ensures fetches { let v = I.view input.old in
         Fetches true (exactly 0) (run_of not_breakz v.ahead) room.old filled result room.new v
-        (I.Input.view input.new) }
+        (I.view input.new) }
     ensures untouched { beyond room.old filled ≡ true → input.new ≡ input.old }
 {
     if filled > room.len() {

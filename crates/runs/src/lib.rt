@@ -1,7 +1,7 @@
 //! Runs of characters, skipped or fetched character by character, over any input.
 #![tactic(auto)]
 
-ghost use Rattle.std.specs.Prelude.{◌≡◌};
+ghost use Rattle.std.specs.Prelude.{◌≡◌, Some, None, MatchResult};
 
 use error::Refusal;
 
@@ -9,19 +9,24 @@ pub mod blanks;
 pub mod calls;
 pub mod laws;
 pub mod plain;
+pub mod scan;
 mod steps;
 
-/// What a fetch answers.
+pub use scan::Scan;
+
+/// What a fetch answers: how much of its run it appended to its room, and why not all of it.
 #[derive(Clone, Copy)]
 pub struct Fetched {
     /// How many characters it took and appended.
     pub count: usize,
     /// The new filled count of its room.
     pub filled: usize,
+    /// None where the whole run was appended.
     pub refusal: Option<Refusal>,
 }
 
 impl Fetched {
+    /// The answer of a fetch with this count and filled count.
     pub fn new(count: usize, filled: usize, refusal: Option<Refusal>) -> Fetched
         ensures { result ≡ record { count = count; filled = filled; refusal = refusal } }
     {
@@ -31,9 +36,20 @@ impl Fetched {
             refusal,
         }
     }
+
+    /// The new filled count, or why the run is not in the room as a whole. What of it fitted is there all the same.
+    pub fn into_result(self) -> Result<usize, Refusal>
+        ensures { MatchResult result (λ filled. (self.refusal ≡ None) × (filled ≡ self.filled))
+            (λ refusal. self.refusal ≡ Some refusal) }
+    {
+        match self.refusal {
+            Some(refusal) => Err(refusal),
+            None => Ok(self.filled),
+        }
+    }
 }
 
-/// Whether tabs count as blanks.
+/// Whether tabs count as blanks, for a call that skips blanks.
 #[derive(Clone, Copy)]
 pub enum SkipTabs {
     Yes,
@@ -43,7 +59,9 @@ pub enum SkipTabs {
 /// Which blanks were skipped.
 #[derive(Clone, Copy)]
 pub struct WhitespaceResult {
+    /// A tab was among them.
     pub found_tabs: bool,
+    /// A space was among them.
     pub has_valid_yaml_ws: bool,
 }
 

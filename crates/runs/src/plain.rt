@@ -3,8 +3,8 @@
 ghost use Rattle.std.specs.Prelude.{◌≡◌, ℕ, ◌≤◌, Bool, true, false, length, take, nat_lt};
 ghost use Rattle.input.specs.View.{exactly};
 ghost use Rattle.runs.specs.Runs.{plain_run, chunk_run, colon_at};
-ghost use Rattle.runs.specs.Rooms.{beyond};
-ghost use Rattle.runs.specs.Scans.{Sees, Skims, Fetches, SkipsChunk, FetchesChunk, StepsChunk, StepsFetch};
+ghost use Rattle.runs.specs.Rooms.{beyond, part};
+ghost use Rattle.runs.specs.Scans.{Sees, SkipsRun, Writes, Fetches, SkipsChunk, FetchesChunk, StepsChunk, StepsFetch};
 
 use crate::calls::WHOLE;
 use crate::steps::{fetch_run, skip_run};
@@ -14,10 +14,10 @@ use error::Refusal;
 use input::Input;
 
 fn skip_safe<I: Input>(input: &mut I, colon: Colon, most: usize, in_flow: bool) -> usize
-    requires { Sees colon (I.Input.view input.old).window }
-    ensures { let v = I.Input.view input.old in
-        Skims (nat_lt result most) (exactly 0) (take most (chunk_run colon in_flow v.ahead))
-        result v (I.Input.view input.new) }
+    requires { Sees colon (I.view input.old).window }
+    ensures { let v = I.view input.old in
+        SkipsRun (nat_lt result most) (exactly 0) (take most (chunk_run colon in_flow v.ahead))
+        result v (I.view input.new) }
 {
     if in_flow {
         skip_run(input, &PlainSafeInFlow, colon, most)
@@ -34,11 +34,13 @@ fn fetch_safe<I: Input>(
     filled: usize,
     in_flow: bool,
 ) -> Fetched
-    requires { (Sees colon (I.Input.view input.old).window) × (filled ≤ length room.old) }
-    ensures { let v = I.Input.view input.old in
-        Fetches (nat_lt result.count most) (exactly 0)
-        (take most (chunk_run colon in_flow v.ahead)) room.old filled result room.new v
-        (I.Input.view input.new) }
+    requires { (Sees colon (I.view input.old).window) × (filled ≤ length room.old) }
+    ensures skips { let v = I.view input.old in
+        SkipsRun (nat_lt result.count most) (exactly 0)
+        (part room.old filled (take most (chunk_run colon in_flow v.ahead))) result.count v
+        (I.view input.new) }
+    ensures writes { Writes (take most (chunk_run colon in_flow (I.view input.old).ahead))
+        room.old filled result room.new }
 {
     if in_flow {
         fetch_run(input, &PlainSafeInFlow, colon, most, room, filled)
@@ -49,7 +51,7 @@ fn fetch_safe<I: Input>(
 
 /// What can be told of a `:` with the window that is there.
 fn colon_in<I: Input>(input: &I) -> Colon
-    ensures { result ≡ colon_at (I.Input.view input.now).window }
+    ensures { result ≡ colon_at (I.view input.now).window }
 {
     if input.buflen() < 2 {
         Colon::Stops
@@ -60,8 +62,8 @@ fn colon_in<I: Input>(input: &I) -> Colon
 
 /// Takes a plain run, character by character, and counts it.
 pub fn skip_plain<I: Input>(input: &mut I, in_flow: bool) -> usize
-    ensures { let v = I.Input.view input.old in
-        Skims true (exactly 2) (plain_run in_flow v.ahead) result v (I.Input.view input.new) }
+    ensures { let v = I.view input.old in
+        SkipsRun true (exactly 2) (plain_run in_flow v.ahead) result v (I.view input.new) }
 {
     input.lookahead(2);
     skip_safe(input, Colon::Leads, WHOLE, in_flow)
@@ -75,9 +77,9 @@ pub fn fetch_plain<I: Input>(
     filled: usize,
     in_flow: bool,
 ) -> Fetched
-    ensures fetches { let v = I.Input.view input.old in
+    ensures fetches { let v = I.view input.old in
         Fetches true (exactly 2) (plain_run in_flow v.ahead) room.old filled result room.new v
-        (I.Input.view input.new) }
+        (I.view input.new) }
     ensures untouched { beyond room.old filled ≡ true → input.new ≡ input.old }
 {
     if filled > room.len() {
@@ -88,10 +90,10 @@ pub fn fetch_plain<I: Input>(
 }
 
 /// Takes at most so many characters of a plain run. The flag tells a stop before the count.
-#[tactic(auto, using(crate::proofs::Chunks::skips_none, crate::proofs::Chunks::steps_none))]
+#[tactic(auto, using(crate::proofs::Chunks::skip_of_none, crate::proofs::Chunks::skip_steps_none))]
 pub fn skip_chunk<I: Input>(input: &mut I, count: usize, in_flow: bool) -> (bool, usize)
-    ensures chunk { SkipsChunk in_flow count result (I.Input.view input.old) (I.Input.view input.new) }
-    ensures steps { StepsChunk in_flow count result (I.Input.view input.old) (I.Input.view input.new) }
+    ensures chunk { SkipsChunk in_flow count result (I.view input.old) (I.view input.new) }
+    ensures steps { StepsChunk in_flow count result (I.view input.old) (I.view input.new) }
 {
     if count == 0 {
         return (false, 0);
@@ -103,7 +105,7 @@ pub fn skip_chunk<I: Input>(input: &mut I, count: usize, in_flow: bool) -> (bool
 }
 
 /// Takes the run of a plain chunk, and appends it to a room.
-#[tactic(auto, using(crate::proofs::Chunks::chunk_beyond, crate::proofs::Chunks::steps_beyond, crate::proofs::Chunks::fetches_chunk_none))]
+#[tactic(auto, using(crate::proofs::Chunks::chunk_beyond, crate::proofs::Chunks::steps_beyond, crate::proofs::Chunks::fetch_of_none))]
 pub fn fetch_chunk<I: Input>(
     input: &mut I,
     room: &mut [u8],
@@ -111,10 +113,10 @@ pub fn fetch_chunk<I: Input>(
     count: usize,
     in_flow: bool,
 ) -> (bool, Fetched)
-    ensures chunk { FetchesChunk in_flow count room.old filled result room.new (I.Input.view input.old)
-        (I.Input.view input.new) }
-    ensures steps { StepsFetch in_flow count room.old filled result room.new (I.Input.view input.old)
-        (I.Input.view input.new) }
+    ensures chunk { FetchesChunk in_flow count room.old filled result room.new (I.view input.old)
+        (I.view input.new) }
+    ensures steps { StepsFetch in_flow count room.old filled result room.new (I.view input.old)
+        (I.view input.new) }
     ensures untouched { beyond room.old filled ≡ true → input.new ≡ input.old }
 {
     if filled > room.len() {

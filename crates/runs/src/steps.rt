@@ -3,7 +3,8 @@
 ghost use Rattle.std.specs.Prelude.{◌≡◌, ℕ, ◌≤◌, Bool, true, false, length, take, nat_lt};
 ghost use Rattle.input.specs.View.{exactly};
 ghost use Rattle.runs.specs.Runs.{goes, run_by};
-ghost use Rattle.runs.specs.Scans.{Sees, Offers, Skims, Fetches};
+ghost use Rattle.runs.specs.Rooms.{part};
+ghost use Rattle.runs.specs.Scans.{Sees, PeeksRun, SkipsRun, Writes};
 
 use crate::{Colon, Fetched};
 use char_traits::class::Class;
@@ -12,7 +13,7 @@ use utf8::encoder::append;
 
 /// Whether a run goes on with a character that is next.
 fn goes_on<C: Class, I: Input>(input: &I, class: &C, c: char, colon: Colon) -> bool
-    ensures { result ≡ goes (C.Class.member class.now) colon c ((I.Input.shown input.now).at 1) }
+    ensures { result ≡ goes (C.member class.now) colon c ((I.shown input.now).at 1) }
 {
     class.has(c)
         && match colon {
@@ -24,9 +25,9 @@ fn goes_on<C: Class, I: Input>(input: &I, class: &C, c: char, colon: Colon) -> b
 
 /// The next character, if the run goes on with it.
 fn next_of_run<C: Class, I: Input>(input: &mut I, class: &C, colon: Colon) -> Option<char>
-    requires { Sees colon (I.Input.view input.old).window }
-    ensures { Offers (goes (C.Class.member class.now) colon) result (I.Input.view input.old)
-        (I.Input.view input.new) }
+    requires { Sees colon (I.view input.old).window }
+    ensures { PeeksRun (goes (C.member class.now) colon) result (I.view input.old)
+        (I.view input.new) }
 {
     match input.next_ch() {
         Some(c) if goes_on(input, class, c, colon) => Some(c),
@@ -41,11 +42,11 @@ pub(crate) fn skip_run<C: Class, I: Input>(
     colon: Colon,
     most: usize,
 ) -> usize
-    requires { Sees colon (I.Input.view input.old).window }
-    ensures { let v = I.Input.view input.old in
-        Skims (nat_lt result most) (exactly 0)
-        (take most (run_by (goes (C.Class.member class.now) colon) v.ahead)) result v
-        (I.Input.view input.new) }
+    requires { Sees colon (I.view input.old).window }
+    ensures { let v = I.view input.old in
+        SkipsRun (nat_lt result most) (exactly 0)
+        (take most (run_by (goes (C.member class.now) colon) v.ahead)) result v
+        (I.view input.new) }
 {
     for taken in 0..most {
         if next_of_run(input, class, colon).is_none() {
@@ -65,11 +66,13 @@ pub(crate) fn fetch_run<C: Class, I: Input>(
     room: &mut [u8],
     filled: usize,
 ) -> Fetched
-    requires { (Sees colon (I.Input.view input.old).window) × (filled ≤ length room.old) }
-    ensures { let v = I.Input.view input.old in
-        Fetches (nat_lt result.count most) (exactly 0)
-        (take most (run_by (goes (C.Class.member class.now) colon) v.ahead)) room.old filled
-        result room.new v (I.Input.view input.new) }
+    requires { (Sees colon (I.view input.old).window) × (filled ≤ length room.old) }
+    ensures skips { let v = I.view input.old in
+        let run = take most (run_by (goes (C.member class.now) colon) v.ahead) in
+        SkipsRun (nat_lt result.count most) (exactly 0) (part room.old filled run) result.count v
+        (I.view input.new) }
+    ensures writes { Writes (take most (run_by (goes (C.member class.now) colon) (I.view input.old).ahead))
+        room.old filled result room.new }
 {
     let mut end = filled;
     for count in 0..most {

@@ -1,7 +1,7 @@
 //! A source that counts how often it is stepped.
 
 ghost use Rattle.std.specs.Prelude.{◌≡◌, ◌+◌, ◌-◌, ◌^◌, min, true, None, length, drop};
-ghost use Rattle.source.specs.Steps.{Gives, told, step_of};
+ghost use Rattle.source.specs.Steps.{Gives, step_number, step_of};
 
 use crate::{FallibleSource, Source};
 use error::Fault;
@@ -73,7 +73,8 @@ impl<F: FallibleSource> FallibleSource for Counted<F> {
     ghost placed = { λ s. F.placed s.below };
 
     fn step(&mut self) -> Result<Option<char>, Fault>
-        ensures tells { told result ≡ step_of (F.ahead self.old.below) (F.ending self.old.below) }
+        ensures tells { step_number result
+            ≡ step_of (F.ahead self.old.below) (F.ending self.old.below) }
         ensures drops { F.ahead self.new.below ≡ drop 1 (F.ahead self.old.below) }
         ensures same { F.ending self.new.below ≡ F.ending self.old.below }
         ensures counts { F.given self.new.below + length (F.ahead self.new.below)

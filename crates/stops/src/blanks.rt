@@ -5,8 +5,7 @@ use crate::fronts::{Run, front_of};
 use crate::kinds::{failing_ring_over, ring_over, slice_over};
 use crate::lines::{FARTHEST, FEW, FILLERS, MANY, STOPS, line_with};
 use error::Refusal;
-use runs::SkipTabs;
-use scan::Scan;
+use runs::{Scan, SkipTabs};
 use std::test::*;
 
 /// What a skip to the end of a line answers, and the next character then.
@@ -18,7 +17,7 @@ struct Skipped {
     next: char,
 }
 
-// The same, worked out from the definition.
+// What a skip answers by the definition of its run.
 fn wanted_of(line: &str, tabs: SkipTabs) -> Skipped {
     let mut count: usize = 0;
     let mut found_tabs = false;

@@ -1,8 +1,7 @@
 //! The scanning calls, each with the run that it takes.
 
 use crate::fronts::Run;
-use runs::Fetched;
-use scan::Scan;
+use runs::{Fetched, Scan};
 
 /// A chunk of so many is the whole of what is left.
 const WHOLE: usize = 1_000;

@@ -9,7 +9,7 @@ use char_traits::is_digit;
 use char_traits::known::{Known, Wide};
 use runs::Colon;
 use std::test::*;
-use text_bytes::cursor::Cursor;
+use text_bytes::Cursor;
 
 /// ASCII digits.
 #[derive(Clone, Copy)]
@@ -46,7 +46,7 @@ const NUMBERS: &str = "0123456789012345678901234567890123456789012345678901";
 fn digits_of(text: &[u8], says: bool) -> Option<(usize, usize)> {
     let start = Cursor::start(text).ok()?;
     let (end, count) = start.run_end(&Digits { says }, Colon::Free);
-    Some((end.place, count))
+    Some((end.place(), count))
 }
 
 #[test]

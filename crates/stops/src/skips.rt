@@ -5,7 +5,7 @@ use crate::fronts::{Front, front_of};
 use crate::kinds::{failing_ring_over, ring_over, slice_over};
 use crate::lines::{FARTHEST, FEW, FILLERS, MANY, STOPS, line_with};
 use error::Refusal;
-use scan::Scan;
+use runs::Scan;
 use std::test::*;
 
 // Whether an input skips a front of the line, and then shows what comes after it.

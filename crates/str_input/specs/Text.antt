@@ -1,18 +1,15 @@
--- A text at hand as an input. Assumes nothing.
-use Rattle.std.specs.Prelude.{◌≡◌, ℕ, ◌-◌, max, true, false, List, take, drop, Some, Option, MatchOption}
+-- A text at hand as an input.
+use Rattle.std.specs.Prelude.{◌≡◌, ℕ, max, true, false, List, drop, Some, Option, MatchOption, slice_index}
 use Rattle.std.specs.Str.{chars}
 use Rattle.error.specs.Numbers.{clean}
-use Rattle.input.specs.View.{Manner, View, Making, New}
+use Rattle.input.specs.View.{Manner, View, Making, IsNew}
 use Rattle.input.specs.Calls.{none_left}
 use Rattle.input.specs.Tests.{Shown, marker_in}
-use Rattle.str_input.specs.declared.text.StrInput.{StrInput}
-use Rattle.text_bytes.specs.Bytes.{shows, begins, Cut}
-use Rattle.text_bytes.specs.Cursors.{ahead_from}
+use Rattle.str_input.specs.declared.str_input.StrInput.{StrInput}
+use Rattle.text_bytes.specs.Bytes.{begins, Cut, IsPart}
+use Rattle.text_bytes.specs.Cursors.{text_of, place_of, ahead_from}
 
--- all of the text's bytes, and the characters from the place on
-abbrev pub whole : StrInput → List ℕ
-whole x = x.at.text.now
-
+-- the characters from the place on
 abbrev pub ahead_of : StrInput → List ℕ
 ahead_of x = ahead_from x.at
 
@@ -20,18 +17,27 @@ ahead_of x = ahead_from x.at
 abbrev pub text_manner : Manner
 text_manner = record { prompt = false; steady = true; steps = false }
 
--- the ending is clean, and met
+-- all of the text is at hand: the ending is met, and it is clean
 abbrev pub text_view : StrInput → View (Unit {0})
-text_view x = record { ahead = ahead_of x; window = x.window; ending = clean; met = true; told = false; manner = text_manner; held = tt }
+text_view x =
+    record {
+      ahead = ahead_of x;
+      window = x.window;
+      ending = clean;
+      met = true;
+      told = false;
+      manner = text_manner;
+      held = tt;
+    }
 
--- a text shows what is ahead, whatever its window, and NUL after that; NUL past its end is no character of it
+-- a text shows what is ahead, whatever its window, and NUL after that, which is no character of it
 abbrev pub text_shown : StrInput → Shown
 text_shown x =
     record {
-      at = shows (ahead_of x);
+      at = slice_index (ahead_of x);
       at_end = none_left (ahead_of x);
       matches = λ wanted. Some (begins wanted (ahead_of x));
-      marker = Some (marker_in (shows (ahead_of x)));
+      marker = Some (marker_in (slice_index (ahead_of x)));
     }
 
 -- a text with all of its characters
@@ -40,30 +46,32 @@ text_making bytes = record { manner = text_manner; chars = chars bytes; finish =
 
 -- a part of the whole text, or none where the bounds are reversed, beyond it or off a boundary
 abbrev pub LendsPart : StrInput → ℕ → ℕ → Option (List ℕ) → Type 0
-LendsPart x start end part = MatchOption part (Cut (whole x) start end → ⊥) (λ bytes. Cut (whole x) start end × (bytes ≡ take (end - start) (drop start (whole x))))
+LendsPart x start end part =
+    let text = text_of x.at in
+    MatchOption part (Cut text start end → ⊥) (IsPart text start end)
 
 -- so many characters are taken, or all; nothing else changes
-pub record Takes (n : ℕ) (x y : StrInput) : Type 0 where
-  pub text : whole y ≡ whole x
+pub record MovesOn (n : ℕ) (x y : StrInput) : Type 0 where
+  pub text : text_of y.at ≡ text_of x.at
   pub window : y.window ≡ x.window
   pub ahead : ahead_of y ≡ drop n (ahead_of x)
 
 -- the window is raised to a count, however large
 pub record Widens (n : ℕ) (x y : StrInput) : Type 0 where
-  pub text : whole y ≡ whole x
-  pub place : y.at.place ≡ x.at.place
+  pub text : text_of y.at ≡ text_of x.at
+  pub place : place_of y.at ≡ place_of x.at
   pub window : y.window ≡ max x.window n
 
--- both: so many characters are taken in a window that is raised first
-pub record TakesWide (asks n : ℕ) (x y : StrInput) : Type 0 where
-  pub text : whole y ≡ whole x
-  pub window : y.window ≡ max x.window asks
+-- the window is raised first, and then so many characters are taken
+pub record MovesWide (look n : ℕ) (x y : StrInput) : Type 0 where
+  pub text : text_of y.at ≡ text_of x.at
+  pub window : y.window ≡ max x.window look
   pub ahead : ahead_of y ≡ drop n (ahead_of x)
 
 -- all of a text is ahead
 pub record Opens (bytes : List ℕ) (x : StrInput) : Type 0 where
-  pub text : whole x ≡ bytes
-  pub place : x.at.place ≡ 0
+  pub text : text_of x.at ≡ bytes
+  pub place : place_of x.at ≡ 0
   pub window : x.window ≡ 0
   pub ahead : ahead_of x ≡ chars bytes
-  pub fresh : New (text_view x)
+  pub fresh : IsNew (text_view x)

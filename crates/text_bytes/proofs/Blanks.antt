@@ -1,5 +1,6 @@
--- Blanks, byte by byte. Assumes nothing.
+-- Blanks, byte by byte.
 use Rattle.std.proofs.Common.{◌≡◌, ℕ, zero, suc, ◌+◌, ◌-◌, ◌<◌, ◌≤◌, Bool, true, false, ◌||◌, eqb, List, [], ◌∷◌, ◌++◌, length, get_or, sym, refl, ap, ◌∙◌, subst, ap₂, arith}
+use Rattle.std.proofs.Math.Bool.{or-true, or-false}
 use Rattle.std.proofs.lemmas.Bool.{cond-true, cond-false, eq-eqb, ne_eqb}
 use Rattle.std.proofs.lemmas.Bool.Decides.{nat_tests}
 use Rattle.input.specs.Tests.{flag}
@@ -9,7 +10,7 @@ use Rattle.runs.specs.declared.SkipTabs.{SkipTabs}
 use Rattle.runs.specs.declared.SkipTabs.TheVariants.{Yes, No}
 use Rattle.runs.specs.declared.Colon.TheVariants.{Free}
 use Rattle.text_bytes.specs.declared.cursor.Cursor.{Cursor}
-use Rattle.text_bytes.specs.Bytes.{Placed, ahead_at}
+use Rattle.text_bytes.specs.Bytes.{IsPlace, ahead_at}
 use Rattle.text_bytes.specs.Cursors.{ahead_from}
 use Rattle.text_bytes.specs.Ends.{Ends}
 use Rattle.text_bytes.specs.Spans.{Spaces}
@@ -29,19 +30,15 @@ a_space Yes = refl
 a_space No = refl
 
 -- a byte that separates is the character there
-same : (tabs : SkipTabs) (b c : ℕ) → (c < 128 → b ≡ c) → (b < 128 → c ≡ b) → separates tabs b ≡ separates tabs c
+same : (tabs : SkipTabs) (b c : ℕ) → (c < 128 → b ≡ c) → (b < 128 → c ≡ b)
+    → separates tabs b ≡ separates tabs c
 same Yes b c f g = grind (arith, nat_tests)
 same No b c f g = grind (arith, nat_tests)
 
-or_true : (x : Bool) → (x || true) ≡ true
-or_true true = refl
-or_true false = refl
-
-or_false : (x : Bool) → (x || false) ≡ x
-or_false true = refl
-or_false false = refl
-
 module _ (tabs : SkipTabs) (x : Cursor) where
+  abbrev go : ℕ → ℕ → Bool
+  go = goes (separates tabs) Free
+
   abbrev ahead : ℕ → List ℕ
   ahead place = ahead_at x.text.now place
 
@@ -51,8 +48,8 @@ module _ (tabs : SkipTabs) (x : Cursor) where
   -- the blanks behind the place are counted, and which kinds were among them
   pub record Blanking (place : ℕ) (found spaces : Bool) : Type 0 where
     pub order : x.place ≤ place
-    pub placed : Placed x.text.now place
-    pub running : Running (goes (separates tabs) Free) (ahead x.place) (ahead place) (place - x.place)
+    pub placed : IsPlace x.text.now place
+    pub running : Running go (ahead x.place) (ahead place) (place - x.place)
     pub tab : has 0x09 (blanks_at x.place) ≡ (found || has 0x09 (blanks_at place))
     pub space : has 0x20 (blanks_at x.place) ≡ (spaces || has 0x20 (blanks_at place))
 
@@ -61,68 +58,86 @@ module _ (tabs : SkipTabs) (x : Cursor) where
       record {
         order = omega arith;
         placed = x.placed;
-        running = subst (λ (n : ℕ). Running (goes (separates tabs) Free) (ahead x.place) (ahead x.place) n) (omega arith) (running_none (goes (separates tabs) Free) (ahead x.place));
+        running = subst (Running go (ahead x.place) (ahead x.place)) (omega arith) (running_none go (ahead x.place));
         tab = refl;
         space = refl;
       }
 
-  pub blanking_as : (place : ℕ) (f g s t : Bool) → f ≡ g → s ≡ t → Blanking place g t → Blanking place f s
-  blanking_as place f g s t e h b = subst (λ (a : Bool). Blanking place a s) (sym e) (subst (λ (a : Bool). Blanking place g a) (sym h) b)
+  pub blanking_as : (place : ℕ) (f g s t : Bool) → f ≡ g → s ≡ t → Blanking place g t
+      → Blanking place f s
+  blanking_as place f g s t e h b =
+      subst (λ (a : Bool). Blanking place a s) (sym e)
+      (subst (λ (a : Bool). Blanking place g a) (sym h) b)
 
-  module _ (place : ℕ) (found spaces : Bool) (s : Blanking place found spaces) (inside : place < length x.text.now) where
-    step : separates tabs (get_or x.text.now place 0) ≡ true → StepsAt x.text.now place (get_or x.text.now place 0) (place + 1)
-    step e = step_ascii x.text.now place (get_or x.text.now place 0) s.placed inside refl (low tabs (get_or x.text.now place 0) e)
+  module _ (place : ℕ) (found spaces : Bool) (s : Blanking place found spaces)
+      (inside : place < length x.text.now) where
+    -- the byte there
+    abbrev here : ℕ
+    here = get_or x.text.now place 0
 
-    next : separates tabs (get_or x.text.now place 0) ≡ true → Placed x.text.now (place + 1)
+    step : separates tabs here ≡ true → StepsAt x.text.now place here (place + 1)
+    step e = step_ascii x.text.now place here s.placed inside refl (low tabs here e)
+
+    next : separates tabs here ≡ true → IsPlace x.text.now (place + 1)
     next e = moved x.text.now place (place + 1) s.placed (step e).boundary
 
-    run : (e : separates tabs (get_or x.text.now place 0) ≡ true) → Running (goes (separates tabs) Free) (ahead x.place) (ahead (place + 1)) (place + 1 - x.place)
+    run : (e : separates tabs here ≡ true)
+        → Running go (ahead x.place) (ahead (place + 1)) (place + 1 - x.place)
     run e =
         let o = s.order in
-        subst (Running (goes (separates tabs) Free) (ahead x.place) (ahead (place + 1))) (omega arith)
-        (running_more (goes (separates tabs) Free) (ahead x.place) (ahead place) (place - x.place) s.running (get_or x.text.now place 0) (ahead (place + 1))
-        (separates tabs (get_or x.text.now place 0)) (step e).first refl e)
+        subst (Running go (ahead x.place) (ahead (place + 1))) (omega arith)
+        (running_more go (ahead x.place) (ahead place) (place - x.place) s.running here (ahead (place + 1))
+        (separates tabs here) (step e).first refl e)
 
-    more : (e : separates tabs (get_or x.text.now place 0) ≡ true) → blanks_at place ≡ get_or x.text.now place 0 ∷ blanks_at (place + 1)
-    more e = ap (blanks_of tabs) (step e).first ∙ cond-true (separates tabs (get_or x.text.now place 0)) _ _ e
+    more : (e : separates tabs here ≡ true) → blanks_at place ≡ here ∷ blanks_at (place + 1)
+    more e = ap (blanks_of tabs) (step e).first ∙ cond-true (separates tabs here) _ _ e
 
     -- one more of a kind, and none more of the other
-    one : (c : ℕ) (b : Bool) (rest : List ℕ) → get_or x.text.now place 0 ≡ c → (b || has c (get_or x.text.now place 0 ∷ rest)) ≡ (true || has c rest)
-    one c b rest e = ap (λ t. b || (t || has c rest)) (eq-eqb (get_or x.text.now place 0) c e) ∙ or_true b
+    one : (c : ℕ) (b : Bool) (rest : List ℕ) → here ≡ c
+        → (b || has c (here ∷ rest)) ≡ (true || has c rest)
+    one c b rest e = ap (λ t. b || (t || has c rest)) (eq-eqb here c e) ∙ or-true b
 
-    other : (c : ℕ) (b : Bool) (rest : List ℕ) → (get_or x.text.now place 0 ≡ c → ⊥) → (b || has c (get_or x.text.now place 0 ∷ rest)) ≡ (b || has c rest)
-    other c b rest e = ap (λ t. b || (t || has c rest)) (ne_eqb (get_or x.text.now place 0) c e)
+    other : (c : ℕ) (b : Bool) (rest : List ℕ) → (here ≡ c → ⊥)
+        → (b || has c (here ∷ rest)) ≡ (b || has c rest)
+    other c b rest e = ap (λ t. b || (t || has c rest)) (ne_eqb here c e)
 
-    pub blanking_tab : separates tabs (get_or x.text.now place 0) ≡ true → get_or x.text.now place 0 ≡ 9 → Blanking (place + 1) true spaces
+    pub blanking_tab : separates tabs here ≡ true → here ≡ 9 → Blanking (place + 1) true spaces
     blanking_tab e is =
+        let rest = blanks_at (place + 1) in
         record {
           order = omega (arith, s.order);
           placed = next e;
           running = run e;
-          tab = s.tab ∙ ap (λ xs. found || has 0x09 xs) (more e) ∙ one 9 found (blanks_at (place + 1)) is;
-          space = s.space ∙ ap (λ xs. spaces || has 0x20 xs) (more e) ∙ other 32 spaces (blanks_at (place + 1)) (omega arith);
+          tab = s.tab ∙ ap (λ xs. found || has 0x09 xs) (more e) ∙ one 9 found rest is;
+          space = s.space ∙ ap (λ xs. spaces || has 0x20 xs) (more e) ∙ other 32 spaces rest (omega arith);
         }
 
-    pub blanking_space : separates tabs (get_or x.text.now place 0) ≡ true → (get_or x.text.now place 0 ≡ 9 → ⊥) → Blanking (place + 1) found true
+    pub blanking_space : separates tabs here ≡ true
+        → (here ≡ 9 → ⊥) → Blanking (place + 1) found true
     blanking_space e is =
+        let rest = blanks_at (place + 1) in
         record {
           order = omega (arith, s.order);
           placed = next e;
           running = run e;
-          tab = s.tab ∙ ap (λ xs. found || has 0x09 xs) (more e) ∙ other 9 found (blanks_at (place + 1)) is;
-          space = s.space ∙ ap (λ xs. spaces || has 0x20 xs) (more e) ∙ one 32 spaces (blanks_at (place + 1)) (space tabs (get_or x.text.now place 0) e is);
+          tab = s.tab ∙ ap (λ xs. found || has 0x09 xs) (more e) ∙ other 9 found rest is;
+          space = s.space ∙ ap (λ xs. spaces || has 0x20 xs) (more e) ∙ one 32 spaces rest (space tabs here e is);
         }
 
   -- spaces after a space: nothing more is found
-  blanking_spaces : (n place to : ℕ) (found : Bool) → to ≡ place + n → Blanking place found true → to ≤ length x.text.now
+  blanking_spaces : (n place to : ℕ) (found : Bool) → to ≡ place + n → Blanking place found true
+      → to ≤ length x.text.now
       → ((k : ℕ) → place ≤ k → k < to → get_or x.text.now k 0 ≡ 0x20) → Blanking to found true
-  blanking_spaces zero place to found e s h each = subst (λ (k : ℕ). Blanking k found true) (omega arith) s
+  blanking_spaces zero place to found e s h each =
+      subst (λ (k : ℕ). Blanking k found true) (omega arith) s
   blanking_spaces (suc n) place to found e s h each =
       let is = each place (omega arith) (omega arith) in
       let one : separates tabs (get_or x.text.now place 0) ≡ true = ap (separates tabs) is ∙ a_space tabs in
-      blanking_spaces n (place + 1) to found (omega arith) (blanking_space place found true s (omega arith) one (λ t. omega arith)) h (λ k l m. each k (omega arith) m)
+      let next = blanking_space place found true s (omega arith) one (λ t. omega arith) in
+      blanking_spaces n (place + 1) to found (omega arith) next h (λ k l m. each k (omega arith) m)
 
-  pub blanking_far : (place to : ℕ) (found : Bool) → Blanking (place + 1) found true → Spaces x.text.now (place + 1) to → Blanking to found true
+  pub blanking_far : (place to : ℕ) (found : Bool) → Blanking (place + 1) found true
+      → Spaces x.text.now (place + 1) to → Blanking to found true
   blanking_far place to found s far =
       let o = far.order in
       blanking_spaces (to - (place + 1)) (place + 1) to found (omega arith) s far.inside far.each
@@ -132,34 +147,39 @@ module _ (tabs : SkipTabs) (x : Cursor) where
     pub ends : Ends x (blanks_at x.place) y (y.place - x.place)
     pub seen : flag found ++ flag spaces ≡ flags_of (blanks_at x.place)
 
-  module _ (y : Cursor) (same_text : y.text.now ≡ x.text.now) (found spaces : Bool) (s : Blanking y.place found spaces) where
-    blanked : length (blanks_at x.place) ≡ y.place - x.place → blanks_at y.place ≡ [] → Blanked y found spaces
+  module _ (y : Cursor) (same_text : y.text.now ≡ x.text.now) (found spaces : Bool)
+      (s : Blanking y.place found spaces) where
+    blanked : length (blanks_at x.place) ≡ y.place - x.place → blanks_at y.place ≡ []
+        → Blanked y found spaces
     blanked is e =
-        let r = subst (λ (l : List ℕ). Running (goes (separates tabs) Free) (ahead x.place) l (y.place - x.place)) (ahead_too x y same_text) s.running in
+        let n = y.place - x.place in
+        let run = subst (λ (l : List ℕ). Running go (ahead x.place) l n) (ahead_too x y same_text) s.running in
         record {
-          ends = run_ends (goes (separates tabs) Free) x y (y.place - x.place) same_text r is;
+          ends = run_ends go x y n same_text run is;
           seen =
               sym
-              (ap₂ (λ a b. flag a ++ flag b) (s.tab ∙ ap (λ xs. found || has 0x09 xs) e ∙ or_false found)
-              (s.space ∙ ap (λ xs. spaces || has 0x20 xs) e ∙ or_false spaces));
+              (ap₂ (λ a b. flag a ++ flag b) (s.tab ∙ ap (λ xs. found || has 0x09 xs) e ∙ or-false found)
+              (s.space ∙ ap (λ xs. spaces || has 0x20 xs) e ∙ or-false spaces));
         }
 
     pub blanked_out : length x.text.now ≤ y.place → Blanked y found spaces
     blanked_out h =
         let e = none_ahead x.text.now y.place h in
-        blanked (running_out (goes (separates tabs) Free) (ahead x.place) (ahead y.place) (y.place - x.place) s.running e) (ap (blanks_of tabs) e)
+        blanked (running_out go (ahead x.place) (ahead y.place) (y.place - x.place) s.running e) (ap (blanks_of tabs) e)
 
-    pub blanked_stops : y.place < length x.text.now → separates tabs (get_or x.text.now y.place 0) ≡ false → Blanked y found spaces
+    pub blanked_stops : y.place < length x.text.now
+        → separates tabs (get_or x.text.now y.place 0) ≡ false → Blanked y found spaces
     blanked_stops h e =
         let f = first_char x.text.now y.place s.placed h in
         let is = same tabs (get_or x.text.now y.place 0) f.c f.byte f.character in
         blanked
-        (running_stops (goes (separates tabs) Free) (ahead x.place) (ahead y.place) (y.place - x.place) s.running f.c (ahead f.next)
+        (running_stops go (ahead x.place) (ahead y.place) (y.place - x.place) s.running f.c (ahead f.next)
         (separates tabs (get_or x.text.now y.place 0)) f.steps.first is e)
         (ap (blanks_of tabs) f.steps.first ∙ cond-false (separates tabs f.c) _ _ (sym is ∙ e))
 
 -- a comment, by its first byte
-pub hash_there : (x : Cursor) → x.place < length x.text.now → eqb (get_or x.text.now x.place 0) 0x23 ≡ at_hash (ahead_from x)
+pub hash_there : (x : Cursor) → x.place < length x.text.now
+    → eqb (get_or x.text.now x.place 0) 0x23 ≡ at_hash (ahead_from x)
 hash_there x h =
     let f = first_char x.text.now x.place x.placed h in
     same_hash (get_or x.text.now x.place 0) f.c f.byte f.character ∙ sym (ap at_hash f.steps.first)

@@ -1,4 +1,4 @@
--- A run goes on over bytes of which none is unsure, and has as many characters as begin there. Assumes nothing.
+-- A run goes on over bytes of which none is unsure, and has as many characters as begin there.
 use Rattle.std.proofs.Common.{◌≡◌, ◌≢◌, ℕ, ◌+◌, ◌-◌, ◌/◌, ◌<◌, ◌≤◌, ◌⊎◌, Bool, true, false, cond, not, ltb, eqb, ◌&&◌, ◌||◌, List, [], ◌∷◌, ◌++◌, length, get_or, drop, map, IsUtf8, refl, sym, ap, ◌∙◌, inl, inr, arith, length-take}
 use lib.Utf8.{encode, encodes, next, scalar, scalars}
 use Rattle.std.specs.List.{count_by, list_all, slice_range}
@@ -20,11 +20,12 @@ use Rattle.char_traits.specs.Known.{Knows, widely}
 use Rattle.runs.specs.declared.Colon.{Colon}
 use Rattle.runs.specs.declared.Colon.TheVariants.{Free, Stops, Leads}
 use Rattle.runs.specs.Runs.{goes, run_by}
-use Rattle.text_bytes.specs.Bytes.{Placed, ahead_at}
-use Rattle.text_bytes.specs.Spans.{begins_one, asked, colon_byte, unsure, Spans}
+use Rattle.text_bytes.specs.Bytes.{IsPlace, ahead_at}
+use Rattle.text_bytes.specs.Spans.{begins_one, must_ask, colon_byte, unsure, Spans}
 use Rattle.text_bytes.proofs.Running.{Running}
 
-counts : (b : ℕ) (bs : List ℕ) → count_by begins_one (b ∷ bs) ≡ cond (begins_one b) 1 0 + count_by begins_one bs
+counts : (b : ℕ) (bs : List ℕ)
+    → count_by begins_one (b ∷ bs) ≡ cond (begins_one b) 1 0 + count_by begins_one bs
 counts = sum_by-cons (λ x. cond (begins_one x) 1 0)
 
 none_after : (codes : List ℕ) → count_by begins_one (map next codes) ≡ 0
@@ -64,8 +65,9 @@ begun_chars [] = refl
 begun_chars (c ∷ cs) = omega (arith, sum_by-append (λ b. cond (begins_one b) 1 0) (encode c) (encodes cs), begun_char c, begun_chars cs)
 
 -- a wide character of which the first byte is not asked
-by_lead : (w : Wide) (c b : ℕ) → 192 ≤ b → (b ≢ 0xC2 → 192 ≤ c) → (b ≢ 0xEF → (c < 0xF000) ⊎ (0x10000 ≤ c)) → asked w b ≡ false → widely w c ≡ true
-by_lead Asked c b h two three e = absurd (both_ways (asked Asked b) e (grind (arith, nat_tests)))
+by_lead : (w : Wide) (c b : ℕ) → 192 ≤ b → (b ≢ 0xC2 → 192 ≤ c)
+    → (b ≢ 0xEF → (c < 0xF000) ⊎ (0x10000 ≤ c)) → must_ask w b ≡ false → widely w c ≡ true
+by_lead Asked c b h two three e = absurd (both_ways (must_ask Asked b) e (grind (arith, nat_tests)))
 by_lead Printable c b h two three e =
     let p = or_parts (eqb b 0xC2) (eqb b 0xEF) e in
     let l = two (eqb-false _ _ p.0) in
@@ -75,7 +77,8 @@ by_lead Printable c b h two three e =
     ]
 by_lead All c b h two three e = refl
 
-lead_known : (w : Wide) (c : ℕ) → 128 ≤ c → (sure : ℕ → Bool) → ((b : ℕ) → sure b ≡ true → asked w b ≡ false)
+lead_known : (w : Wide) (c : ℕ) → 128 ≤ c → (sure : ℕ → Bool)
+    → ((b : ℕ) → sure b ≡ true → must_ask w b ≡ false)
     → list_all sure (encode c) ≡ true → widely w c ≡ true
 lead_known w c h sure turn each =
     elim (cases_lt c 2048) [
@@ -93,31 +96,34 @@ lead_known w c h sure turn each =
           ]
     ]
 
-on_with : (member : ℕ → Bool) (colon : Colon) (c after : ℕ) → member c ≡ true → c ≢ colon_byte colon → goes member colon c after ≡ true
+on_with : (member : ℕ → Bool) (colon : Colon) (c after : ℕ) → member c ≡ true → c ≢ colon_byte colon
+    → goes member colon c after ≡ true
 on_with member Free c after m s = m
 on_with member Stops c after m s = and_from (member c) _ m (ap not (ne_eqb c 0x3A s))
 on_with member Leads c after m s = and_from (member c) _ m (ap (λ t. not t || member after) (ne_eqb c 0x3A s))
 
 -- where a byte is unsure, no character goes on
-pub unsure_begins : (k : Known) (colon : Colon) (b : ℕ) → k.low ≤ 128 → unsure k colon b ≡ true → 128 ≤ b → 192 ≤ b
+pub unsure_begins : (k : Known) (colon : Colon) (b : ℕ) → k.low ≤ 128 → unsure k colon b ≡ true
+    → 128 ≤ b → 192 ≤ b
 unsure_begins k colon b low u h =
     elim (cases_lt b 192) [
       | inl l ↦
           absurd
           (both_ways (unsure k colon b)
-          (none_of (ltb b k.low) (ltb k.high b) (ltb b 0x80) (asked k.wide b) (eqb b (colon_byte colon)) k.but_flow (flow b) (grind (arith, nat_tests))
+          (none_of (ltb b k.low) (ltb k.high b) (ltb b 0x80) (must_ask k.wide b) (eqb b (colon_byte colon)) k.but_flow (flow b) (grind (arith, nat_tests))
           (grind (arith, nat_tests)) (not_asked k.wide b h l) (no_colon colon b h) (grind (arith, nat_tests)))
           u)
       | inr l ↦ l
     ]
   where
-    none_of : (p q r s t f g : Bool) → p ≡ false → r ≡ false → s ≡ false → t ≡ false → g ≡ false → ((p || (q && r)) || ((s || t) || (f && g))) ≡ false
+    none_of : (p q r s t f g : Bool) → p ≡ false → r ≡ false → s ≡ false → t ≡ false → g ≡ false
+        → ((p || (q && r)) || ((s || t) || (f && g))) ≡ false
     none_of p true r s t true g a b c d e = cc
     none_of p true r s t false g a b c d e = cc
     none_of p false r s t true g a b c d e = cc
     none_of p false r s t false g a b c d e = cc
 
-    not_asked : (w : Wide) (b : ℕ) → 128 ≤ b → b < 192 → asked w b ≡ false
+    not_asked : (w : Wide) (b : ℕ) → 128 ≤ b → b < 192 → must_ask w b ≡ false
     not_asked Asked b h l = grind (arith, nat_tests)
     not_asked Printable b h l = grind (arith, nat_tests)
     not_asked All b h l = refl
@@ -133,15 +139,15 @@ module _ (member : ℕ → Bool) (k : Known) (knows : Knows member k) (colon : C
 
   record Sure (b : ℕ) : Type 0 where
     bounds : (ltb b k.low || (ltb k.high b && ltb b 0x80)) ≡ false
-    lead : asked k.wide b ≡ false
+    lead : must_ask k.wide b ≡ false
     colons : eqb b (colon_byte colon) ≡ false
     flows : (k.but_flow && flow b) ≡ false
 
   parts : (b : ℕ) → sure b ≡ true → Sure b
   parts b s =
       let p = or_parts (ltb b k.low || (ltb k.high b && ltb b 0x80)) _ (not-true _ s) in
-      let q = or_parts (asked k.wide b || eqb b (colon_byte colon)) _ p.1 in
-      let r = or_parts (asked k.wide b) _ q.0 in
+      let q = or_parts (must_ask k.wide b || eqb b (colon_byte colon)) _ p.1 in
+      let r = or_parts (must_ask k.wide b) _ q.0 in
       record { bounds = p.0; lead = r.0; colons = r.1; flows = q.1 }
 
   colon_low : (colon : Colon) (c : ℕ) → 128 ≤ c → c ≢ colon_byte colon
@@ -149,7 +155,8 @@ module _ (member : ℕ → Bool) (k : Known) (knows : Knows member k) (colon : C
   colon_low Stops c h e = omega arith
   colon_low Leads c h e = omega arith
 
-  sure_member : (c : ℕ) → scalar c ≡ true → list_all sure (encode c) ≡ true → (member c ≡ true) × (c ≢ colon_byte colon)
+  sure_member : (c : ℕ) → scalar c ≡ true → list_all sure (encode c) ≡ true
+      → (member c ≡ true) × (c ≢ colon_byte colon)
   sure_member c s each =
       elim (cases_lt c 128) [
         | inl low ↦
@@ -174,7 +181,7 @@ module _ (member : ℕ → Bool) (k : Known) (knows : Knows member k) (colon : C
       let more = ap (λ t. length (cond t (c ∷ run_by (goes member colon) (cs ++ rest)) [])) on in
       omega (arith, more, sure_run cs rest p.1 q.1)
 
-  module _ (text : List ℕ) (from to count : ℕ) (p : Placed text from) (s : Spans k colon text from to count)
+  module _ (text : List ℕ) (from to count : ℕ) (p : IsPlace text from) (s : Spans k colon text from to count)
       (stops : to < length text → unsure k colon (get_or text to 0) ≡ true) where
     pub crossed_boundary : IsCharBoundary text to
     crossed_boundary = (s.inside, λ l h. unsure_begins k colon (get_or text to 0) knows.bounds.0 (stops l) h)

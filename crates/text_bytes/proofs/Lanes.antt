@@ -1,4 +1,4 @@
--- Tests of bytes, many at once. Assumes nothing.
+-- Tests of bytes, many at once.
 use Rattle.std.proofs.Common.{◌≡◌, ℕ, zero, suc, ◌%◌, ◌^◌, Bool, true, false, cond, not, ltb, leb, eqb, ◌&&◌, ◌||◌, List, [], ◌∷◌, length, map, replicate, bit_and, bit_or, refl, sym, ap, ap₂, ◌∙◌, arith}
 use Rattle.std.specs.Simd.Lanes.{zip2, sel_l, mask_l, top}
 use Rattle.std.proofs.lemmas.Simd.{map-map, zip2-map, zip2_splat, zip2_splat_left, mask_l-mod}
@@ -44,23 +44,29 @@ module _ (v : List ℕ) where
     both = ap₂ (zip2 bit_and) is too ∙ zip2-map bit_and _ _ v ∙ lanes_as _ _ (λ x. and_lane (p x) (q x)) v
 
   module _ (long : length v ≡ 16) where
-    pub under : (n : ℕ) → Tests (λ x. ltb x n) (zip2 (λ x y. cond (ltb x y) 255 0) v (replicate 16 n))
+    pub under : (n : ℕ)
+        → Tests (λ x. ltb x n) (zip2 (λ x y. cond (ltb x y) 255 0) v (replicate 16 n))
     under n = zip2_splat _ v 16 n long
 
-    pub over : (n : ℕ) → Tests (λ x. ltb n x) (zip2 (λ x y. cond (ltb x y) 255 0) (replicate 16 n) v)
+    pub over : (n : ℕ)
+        → Tests (λ x. ltb n x) (zip2 (λ x y. cond (ltb x y) 255 0) (replicate 16 n) v)
     over n = zip2_splat_left (λ x y. cond {A = ℕ} (ltb x y) 255 0) n 16 v long
 
-    pub from : (n : ℕ) → Tests (λ x. leb n x) (zip2 (λ x y. cond (leb x y) 255 0) (replicate 16 n) v)
+    pub from : (n : ℕ)
+        → Tests (λ x. leb n x) (zip2 (λ x y. cond (leb x y) 255 0) (replicate 16 n) v)
     from n = zip2_splat_left (λ x y. cond {A = ℕ} (leb x y) 255 0) n 16 v long
 
-    pub same : (n : ℕ) → Tests (λ x. eqb x n) (zip2 (λ x y. cond (eqb x y) 255 0) v (replicate 16 n))
+    pub same : (n : ℕ)
+        → Tests (λ x. eqb x n) (zip2 (λ x y. cond (eqb x y) 255 0) v (replicate 16 n))
     same n = zip2_splat _ v 16 n long
 
-    pub other : (n : ℕ) → Tests (λ x. not (eqb x n)) (zip2 (λ x y. cond (not (eqb x y)) 255 0) v (replicate 16 n))
+    pub other : (n : ℕ)
+        → Tests (λ x. not (eqb x n)) (zip2 (λ x y. cond (not (eqb x y)) 255 0) v (replicate 16 n))
     other n = zip2_splat _ v 16 n long
 
     -- all bits of a lane, or none
-    pub chosen : (p : ℕ → Bool) (a : List ℕ) → Tests p a → Tests p (sel_l (map (top 7) a) (replicate 16 255) (replicate 16 0))
+    pub chosen : (p : ℕ → Bool) (a : List ℕ) → Tests p a
+        → Tests p (sel_l (map (top 7) a) (replicate 16 255) (replicate 16 0))
     chosen p a is = ap (λ l. sel_l (map (top 7) l) (replicate 16 255) (replicate 16 0)) is ∙ picked p v 16 long
 
     pub never : Tests (λ _. false) (replicate 16 0)
@@ -73,7 +79,8 @@ module _ (v : List ℕ) where
         blank (x ∷ v) (suc n) e = ap (λ l. 0 ∷ l) (blank v n (omega arith))
 
     -- a test of tests that were chosen so
-    pub again : (p : ℕ → Bool) (a : List ℕ) → Tests p a → Tests p (zip2 (λ x y. cond (eqb x y) 255 0) a (replicate 16 255))
+    pub again : (p : ℕ → Bool) (a : List ℕ) → Tests p a
+        → Tests p (zip2 (λ x y. cond (eqb x y) 255 0) a (replicate 16 255))
     again p a is =
         ap (λ l. zip2 (λ x y. cond (eqb x y) 255 0) l (replicate 16 255)) is
         ∙ zip2_splat _ (map (λ x. lane (p x)) v) 16 255 (length-map v _ ∙ long) ∙ map-map _ _ v ∙ lanes_as _ _ (λ x. all_set (p x)) v
@@ -83,7 +90,8 @@ module _ (v : List ℕ) where
         all_set false = refl
 
     -- the mask of a test
-    pub bits : (p : ℕ → Bool) (a : List ℕ) → Tests p a → mask_l (map (top 7) a) % 2 ^ 64 ≡ mask_l (map p v)
+    pub bits : (p : ℕ → Bool) (a : List ℕ) → Tests p a
+        → mask_l (map (top 7) a) % 2 ^ 64 ≡ mask_l (map p v)
     bits p a is =
         ap (λ l. mask_l l % 2 ^ 64) (ap (map (top 7)) is ∙ map-map (top 7) _ v ∙ tops v)
         ∙ mask_l-mod (map p v) 64 (omega (arith, length-map v p, long))

@@ -1,11 +1,11 @@
--- How far a run is known to go on, byte by byte of a text. Assumes nothing.
+-- How far a run is known to go on, byte by byte of a text.
 use Rattle.std.proofs.Common.{◌≡◌, ◌≢◌, ℕ, zero, suc, ◌+◌, ◌-◌, ◌*◌, ◌/◌, ◌%◌, ◌^◌, ◌<◌, ◌≤◌, Bool, true, false, cond, not, eqb, List, [], ◌∷◌, ◌++◌, length, get_or, take, drop, map, count_ones, refl, sym, subst, ap, ◌∙◌, inl, inr, arith, length-take}
 use mir.Val.{bool_byte}
 use Rattle.std.specs.List.{count_by, prefix_len}
 use Rattle.std.specs.Int.Count.{count_trailing_zeros}
 use Rattle.std.specs.Simd.Lanes.{mask_l, chunk}
 use Rattle.std.proofs.Math.Seq.{take-add}
-use Rattle.std.proofs.lemmas.List.{drop-drop, drop_more, take-map}
+use Rattle.std.proofs.lemmas.List.{drop-drop, drop_more, take-map, take-take}
 use Rattle.std.proofs.lemmas.List.Sums.{sum_by-append, sum_by-cons, count_by-le-length}
 use Rattle.std.proofs.lemmas.Bool.{cases_lt, eqb-true, not-false}
 use Rattle.std.proofs.lemmas.Nat.{mod-pow-add}
@@ -21,8 +21,10 @@ module _ (known : Known) (colon : Colon) (text : List ℕ) (from : ℕ) where
       record { order = omega arith; inside = h; each = λ k l m. absurd (omega arith); number = sym (ap (λ n. count_by begins_one (take n (drop from text))) none) }
 
   module _ (at count : ℕ) (s : Spans known colon text from at count) where
-    pub span_on : (n more : ℕ) → at + n ≤ length text → ((k : ℕ) → at ≤ k → k < at + n → unsure known colon (get_or text k 0) ≡ false)
-        → more ≡ count_by begins_one (take n (drop at text)) → Spans known colon text from (at + n) (count + more)
+    pub span_on : (n more : ℕ) → at + n ≤ length text
+        → ((k : ℕ) → at ≤ k → k < at + n → unsure known colon (get_or text k 0) ≡ false)
+        → more ≡ count_by begins_one (take n (drop at text))
+        → Spans known colon text from (at + n) (count + more)
     span_on n more h each is =
         let rest = drop from text in
         let far : at + n - from ≡ (at - from) + n = omega (arith, s.order) in
@@ -41,7 +43,8 @@ module _ (known : Known) (colon : Colon) (text : List ℕ) (from : ℕ) where
         }
 
 -- the lowest digits of a mask are those of the first lanes
-lowest : (b : Bool) (n : ℕ) → ((cond b 1 0 + 2 * n) % 2 ≡ cond b 1 0) × ((cond b 1 0 + 2 * n) / 2 ≡ n)
+lowest : (b : Bool) (n : ℕ)
+    → ((cond b 1 0 + 2 * n) % 2 ≡ cond b 1 0) × ((cond b 1 0 + 2 * n) / 2 ≡ n)
 lowest true n = omega arith
 lowest false n = omega arith
 
@@ -54,26 +57,24 @@ below (suc n) (b ∷ ms) =
     ap (λ k. mask_l (b ∷ ms) % 2 ^ k) one ∙ mod-pow-add (mask_l (b ∷ ms)) n 1 ∙ omega (arith, l.0, ap (λ m. m % 2 ^ n) l.1, below n ms)
 
 -- how many of the first lanes pass a test
-pub ones_below : (p : ℕ → Bool) (n : ℕ) (v : List ℕ) → count_ones (mask_l (map p v) % 2 ^ n) ≡ count_by p (take n v)
+pub ones_below : (p : ℕ → Bool) (n : ℕ) (v : List ℕ)
+    → count_ones (mask_l (map p v) % 2 ^ n) ≡ count_by p (take n v)
 ones_below p n v = ap count_ones (below n (map p v) ∙ ap mask_l (take-map p n v)) ∙ ones-mask_l p (take n v)
 
-no_bits : (p : ℕ → Bool) (v : List ℕ) → prefix_len (λ x. not (p x)) v ≡ length v → mask_l (map p v) ≡ 0
+no_bits : (p : ℕ → Bool) (v : List ℕ) → prefix_len (λ x. not (p x)) v ≡ length v
+    → mask_l (map p v) ≡ 0
 no_bits p [] e = refl
 no_bits p (x ∷ v) e = go (p x) e (no_bits p v)
   where
-    go : (b : Bool) → cond (not b) (1 + prefix_len (λ x. not (p x)) v) 0 ≡ suc (length v) → (prefix_len (λ x. not (p x)) v ≡ length v → mask_l (map p v) ≡ 0)
+    go : (b : Bool) → cond (not b) (1 + prefix_len (λ x. not (p x)) v) 0 ≡ suc (length v)
+        → (prefix_len (λ x. not (p x)) v ≡ length v → mask_l (map p v) ≡ 0)
         → cond b 1 0 + 2 * mask_l (map p v) ≡ 0
     go true e rest = absurd (omega (arith, e))
     go false e rest = omega (arith, rest (omega (arith, e)))
 
-take_take : (n m : ℕ) (xs : List ℕ) → n ≤ m → take n (take m xs) ≡ take n xs
-take_take zero m xs h = refl
-take_take (suc n) zero xs h = absurd (omega arith)
-take_take (suc n) (suc m) [] h = refl
-take_take (suc n) (suc m) (x ∷ xs) h = ap (λ l. x ∷ l) (take_take n m xs (omega arith))
-
 -- no more characters begin than there are bytes
-pub span_few : (known : Known) (colon : Colon) (text : List ℕ) (from to count : ℕ) → Spans known colon text from to count → count ≤ to - from
+pub span_few : (known : Known) (colon : Colon) (text : List ℕ) (from to count : ℕ)
+    → Spans known colon text from to count → count ≤ to - from
 span_few known colon text from to count s =
     omega (arith, s.number, count_by-le-length begins_one (take (to - from) (drop from text)), length-take (to - from) (drop from text))
 
@@ -114,17 +115,19 @@ module _ (known : Known) (colon : Colon) (text : List ℕ) (from at count bits f
       (ap count_ones firsts ∙ ones-mask_l begins_one (chunk at 16 text))
 
   -- some are
-  pub span_stop : bits ≢ 0 → Spans known colon text from (at + count_trailing_zeros 64 bits) (count + count_ones (first % 2 ^ count_trailing_zeros 64 bits))
+  pub span_stop : bits ≢ 0
+      → Spans known colon text from (at + count_trailing_zeros 64 bits) (count + count_ones (first % 2 ^ count_trailing_zeros 64 bits))
   span_stop some =
       let r = count_trailing_zeros 64 bits in
       let h = within (unsure known colon) text at bits room is some in
       span_on known colon text from at count s r (count_ones (first % 2 ^ r)) (omega (arith, h, room)) (none_before (unsure known colon) text at bits room is some)
       (ap (λ m. count_ones (m % 2 ^ r)) firsts ∙ ones_below begins_one r (chunk at 16 text)
-      ∙ ap (count_by begins_one) (take_take r 16 (drop at text) (omega (arith, h))))
+      ∙ ap (count_by begins_one) (take-take r 16 (drop at text) (omega (arith, h))))
 
 -- a single byte
 module _ (known : Known) (colon : Colon) (text : List ℕ) (from at count : ℕ) (s : Spans known colon text from at count) (h : at < length text) where
-  pub span_byte : (begins : Bool) → unsure known colon (get_or text at 0) ≡ false → begins ≡ begins_one (get_or text at 0)
+  pub span_byte : (begins : Bool) → unsure known colon (get_or text at 0) ≡ false
+      → begins ≡ begins_one (get_or text at 0)
       → Spans known colon text from (at + 1) (count + cond begins 1 0)
   span_byte begins sure is =
       let one : count_by begins_one (take 1 (drop at text)) ≡ cond (begins_one (get_or text at 0)) 1 0 + 0 =
@@ -143,7 +146,8 @@ pub spaces_none : (text : List ℕ) (from : ℕ) → from ≤ length text → Sp
 spaces_none text from h = record { order = omega arith; inside = h; each = λ k l m. absurd (omega arith) }
 
 pub spaces_on : (text : List ℕ) (from at n : ℕ) → Spaces text from at → at + n ≤ length text
-    → ((k : ℕ) → at ≤ k → k < at + n → not (eqb (get_or text k 0) 0x20) ≡ false) → Spaces text from (at + n)
+    → ((k : ℕ) → at ≤ k → k < at + n → not (eqb (get_or text k 0) 0x20) ≡ false)
+    → Spaces text from (at + n)
 spaces_on text from at n s h each =
     record {
       order = omega (arith, s.order);

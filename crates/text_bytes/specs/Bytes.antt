@@ -1,10 +1,10 @@
--- Characters in the bytes of a text. Assumes nothing.
-use Rattle.std.specs.Prelude.{◌≡◌, ℕ, ◌+◌, ◌≤◌, Bool, true, false, ◌&&◌, List, [], ◌∷◌, length, drop, ◌==◌, slice_index, slice_index_or}
+-- Characters in the bytes of a text.
+use Rattle.std.specs.Prelude.{◌≡◌, ℕ, ◌+◌, ◌-◌, ◌≤◌, Bool, true, false, ◌&&◌, List, [], ◌∷◌, length, take, drop, ◌==◌, slice_index_or}
 use Rattle.std.proofs.Math.Utf8.{encodes, scalars}
 use Rattle.std.specs.Str.{IsCharBoundary, chars}
 
 -- well-formed bytes, and a place between two of their characters
-pub record Placed (text : List ℕ) (at : ℕ) : Type 0 where
+pub record IsPlace (text : List ℕ) (at : ℕ) : Type 0 where
   pub formed : encodes (chars text) ≡ text
   pub characters : scalars (chars text) ≡ true
   pub boundary : IsCharBoundary text at
@@ -12,10 +12,6 @@ pub record Placed (text : List ℕ) (at : ℕ) : Type 0 where
 -- the characters from a place on
 abbrev pub ahead_at : List ℕ → ℕ → List ℕ
 ahead_at text at = chars (drop at text)
-
--- what is shown at each place: NUL past the end
-abbrev pub shows : List ℕ → ℕ → ℕ
-shows ahead n = slice_index ahead n
 
 -- the characters wanted are there, first of those ahead
 abbrev pub begins : List ℕ → List ℕ → Bool
@@ -35,3 +31,8 @@ pub record Cut (text : List ℕ) (start end : ℕ) : Type 0 where
   pub order : start ≤ end
   pub from : IsCharBoundary text start
   pub to : IsCharBoundary text end
+
+-- what is between such bounds
+pub record IsPart (text : List ℕ) (start end : ℕ) (bytes : List ℕ) : Type 0 where
+  pub cut : Cut text start end
+  pub all : bytes ≡ take (end - start) (drop start text)

@@ -1,9 +1,9 @@
--- Runs of characters in the bytes of a text: where they end, and what of them a fetch takes. Assumes nothing.
-use Rattle.std.specs.Prelude.{◌≡◌, ℕ, ◌+◌, ◌-◌, ◌≤◌, true, List, length, take, drop}
+-- Where runs of characters in a text end, and what of them a fetch takes.
+use Rattle.std.specs.Prelude.{◌≡◌, ℕ, ◌-◌, ◌≤◌, true, List, length, take, drop}
 use Rattle.std.proofs.Math.Utf8.{encodes}
-use Rattle.utf8.specs.Room.{laid}
 use Rattle.runs.specs.declared.Fetched.{Fetched}
-use Rattle.runs.specs.Rooms.{beyond, part, refused, fetch_refusal}
+use Rattle.runs.specs.Rooms.{beyond, part}
+use Rattle.runs.specs.Scans.{Writes}
 use Rattle.text_bytes.specs.declared.cursor.Cursor.{Cursor}
 use Rattle.text_bytes.specs.Cursors.{ahead_from}
 
@@ -18,12 +18,11 @@ pub record Ends (x : Cursor) (run : List ℕ) (y : Cursor) (count : ℕ) : Type 
 -- as much of a run as fits is counted and appended to a room
 pub record AppendsRun (run room : List ℕ) (filled : ℕ) (r : Fetched) (left : List ℕ) : Type 0 where
   pub number : r.count ≡ length (part room filled run)
-  pub fills : r.filled ≡ filled + length (encodes (part room filled run))
-  pub refusal : refused r.refusal ≡ fetch_refusal room filled run
-  pub bytes : left ≡ laid room filled (encodes (part room filled run))
+  pub writes : Writes run room filled r left
 
--- the same of a run that begins at a place, and the place after what was appended
-pub record FetchesAt (x : Cursor) (run room : List ℕ) (filled : ℕ) (y : Cursor) (r : Fetched) (left : List ℕ) : Type 0 where
+-- a run that begins at a place is appended so, and what was appended ends at the next place
+pub record FetchesAt (x : Cursor) (run room : List ℕ) (filled : ℕ) (y : Cursor) (r : Fetched)
+    (left : List ℕ) : Type 0 where
   pub appends : AppendsRun run room filled r left
   pub text : y.text.now ≡ x.text.now
   pub ahead : ahead_from y ≡ drop (length (part room filled run)) (ahead_from x)

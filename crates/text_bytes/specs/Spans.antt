@@ -1,4 +1,4 @@
--- How far a run is known to go on, by the bytes of a text. Assumes nothing.
+-- How far a run is known to go on, by the bytes of a text.
 use Rattle.std.specs.Prelude.{◌≡◌, ℕ, ◌+◌, ◌<◌, ◌≤◌, Bool, false, cond, not, ◌&&◌, ◌||◌, List, length, drop, ◌==◌, nat_lt, nat_le, slice_index, slice_range}
 use Rattle.std.specs.List.{count_by}
 use Rattle.char_traits.specs.Chars.{flow}
@@ -16,10 +16,10 @@ abbrev pub begins_one : ℕ → Bool
 begins_one b = nat_lt b 0x80 || nat_le 0xC0 b
 
 -- the first byte of a wide character that has to be asked, if these are known
-abbrev pub asked : Wide → ℕ → Bool
-asked Asked b = nat_le 0xC0 b
-asked Printable b = b == 0xC2 || b == 0xEF
-asked All b = false
+abbrev pub must_ask : Wide → ℕ → Bool
+must_ask Asked b = nat_le 0xC0 b
+must_ask Printable b = b == 0xC2 || b == 0xEF
+must_ask All b = false
 
 -- the : of a run that has to look at it; NUL is in no class
 abbrev pub colon_byte : Colon → ℕ
@@ -31,7 +31,7 @@ colon_byte Leads = 0x3A
 abbrev pub unsure : Known → Colon → ℕ → Bool
 unsure known colon b =
     (nat_lt b known.low || (nat_lt known.high b && nat_lt b 0x80))
-    || ((asked known.wide b || b == colon_byte colon) || (known.but_flow && flow b))
+    || ((must_ask known.wide b || b == colon_byte colon) || (known.but_flow && flow b))
 
 -- so many characters of a run lie between two places of a text, each a byte or more
 pub record Crosses (go : ℕ → ℕ → Bool) (x y : Cursor) (n : ℕ) : Type 0 where

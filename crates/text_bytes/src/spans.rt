@@ -3,15 +3,17 @@
 ghost use Rattle.std.specs.Prelude.{◌≡◌, ◌%◌, ◌^◌, ◌<◌, ◌≤◌, ◌&&◌, true, length, map, count_ones, slice_index};
 ghost use Rattle.std.specs.Simd.Lanes.{mask_l};
 ghost use Rattle.char_traits.specs.Chars.{flow};
-ghost use Rattle.text_bytes.specs.Spans.{begins_one, asked, colon_byte, unsure, lane, no_space, Spaces, Spans};
+ghost use Rattle.text_bytes.specs.Spans.{begins_one, must_ask, colon_byte, unsure, lane, no_space, Spaces, Spans};
 
 use char_traits::is_flow;
 use char_traits::known::{Known, Wide};
 use runs::Colon;
 use std::simd::prelude::*;
 
+/// The bytes of a block: as many as the vectors have that are in every x86-64.
 const LANES: usize = 16;
 
+/// The byte at which a run has to ask for the sake of its colon: NUL, which is in no class, for none.
 fn byte_of(colon: Colon) -> u8
     ensures { result ≡ colon_byte colon }
 {
@@ -21,8 +23,9 @@ fn byte_of(colon: Colon) -> u8
     }
 }
 
+/// Whether a byte begins a wide character that has to be asked.
 fn is_asked(byte: u8, wide: Wide) -> bool
-    ensures { result ≡ asked wide byte }
+    ensures { result ≡ must_ask wide byte }
 {
     match wide {
         Wide::Asked => byte >= 0xC0,
@@ -31,6 +34,7 @@ fn is_asked(byte: u8, wide: Wide) -> bool
     }
 }
 
+/// Whether a byte begins a character with which a run is not known to go on.
 fn is_unsure(byte: u8, known: Known, colon: Colon) -> bool
     ensures { result ≡ unsure known colon byte }
 {
@@ -52,7 +56,7 @@ pub(crate) fn begins_one(byte: u8) -> bool
 #[inline(always)]
 fn asked_lanes(bytes: u8x16, wide: Wide) -> u8x16
     requires { length bytes ≡ 16 }
-    ensures { result ≡ map (λ b. lane (asked wide b)) bytes }
+    ensures { result ≡ map (λ b. lane (must_ask wide b)) bytes }
 {
     let (set, clear) = (u8x16::splat(0xFF), u8x16::splat(0));
     match wide {
@@ -65,7 +69,8 @@ fn asked_lanes(bytes: u8x16, wide: Wide) -> u8x16
     }
 }
 
-/// The same of the flow characters, if they are left out.
+/// Whether each of many bytes is a flow character, where a class leaves those out: if so, all bits of
+/// its lane are set.
 #[inline(always)]
 fn flow_lanes(bytes: u8x16, but_flow: bool) -> u8x16
     requires { length bytes ≡ 16 }
@@ -122,7 +127,8 @@ fn ones_below(bits: u64, lanes: u32) -> usize
     (bits & ((1 << lanes) - 1)).count_ones() as usize
 }
 
-/// The first place from one on where a byte is unsure, or the end of the text, and how many characters begin before it.
+/// The first place from one on where a byte is unsure, or the end of the text, and how many characters
+/// begin before it.
 #[inline(always)]
 pub(crate) fn known_end(text: &[u8], from: usize, known: Known, colon: Colon) -> (usize, usize)
     requires { from ≤ length text.now }
@@ -130,7 +136,8 @@ pub(crate) fn known_end(text: &[u8], from: usize, known: Known, colon: Colon) ->
     ensures stops { result.0 < length text.now
         → unsure known colon (slice_index text.now result.0) ≡ true }
 {
-    // What stops a line often stands together, as tabs and the ends of empty lines: one byte is looked at before a block.
+    // What stops a line often stands together, as tabs and the ends of empty lines: one byte is
+    // looked at before a block.
     let is_line = matches!(colon, Colon::Free);
     if is_line && from < text.len() && is_unsure(text[from], known, colon) {
         return (from, 0);
@@ -160,8 +167,8 @@ pub(crate) fn known_end(text: &[u8], from: usize, known: Known, colon: Colon) ->
     (at, count)
 }
 
-/// The end of some spaces from a place on. The last few bytes of a text are not looked at. Most spaces stand alone, so
-/// one byte is looked at before a block.
+/// The end of some spaces from a place on. The last few bytes of a text are not looked at.
+/// Most spaces stand alone, so one byte is looked at before a block.
 #[inline(always)]
 pub(crate) fn spaces_end(text: &[u8], from: usize) -> usize
     requires { from ≤ length text.now }

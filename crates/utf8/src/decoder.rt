@@ -3,7 +3,7 @@
 ghost use Rattle.std.specs.Prelude.{◌≡◌, ◌<◌, ◌%◌, [], length, drop, MatchOption};
 ghost use Rattle.std.specs.Char.{len_utf8};
 ghost use Rattle.utf8.specs.Table.{row1, row2, row3, row4, NoRow, RowsHave};
-ghost use Rattle.utf8.specs.Decoding.{told, BeginsWith, Leads, IsChar, IsIll, Decodes, Reads, Returns};
+ghost use Rattle.utf8.specs.Decoding.{decode_number, BeginsWith, Leads, IsChar, IsIll, Decodes, IsRowOf, Returns};
 
 /// No front of some bytes is a character.
 #[derive(Clone, Copy, Debug, PartialEq, Eq)]
@@ -53,7 +53,7 @@ fn tail(b: u8) -> u32
 
 /// The character of which these are the bytes.
 fn character(row: &[u8]) -> Option<char>
-    ensures { Reads row.now result }
+    ensures { IsRowOf row.now result }
 {
     match row {
         [a] if is_row1(*a) => Some(char::from(*a)),
@@ -99,8 +99,8 @@ fn front(rest: &[u8]) -> Option<char>
 /// The character at a place of some bytes, and how many bytes it has. From their end on there is none.
 #[inline(always)]
 pub fn decode(text: &[u8], place: usize) -> Result<Option<(char, usize)>, IllFormed>
-    ensures decodes { Decodes (drop place text.now) (told result) }
-    ensures returns { Returns (drop place text.now) (told result) }
+    ensures decodes { Decodes (drop place text.now) (decode_number result) }
+    ensures returns { Returns (drop place text.now) (decode_number result) }
 {
     if place >= text.len() {
         return Ok(None);

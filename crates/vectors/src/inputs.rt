@@ -1,12 +1,12 @@
 //! The worked examples of tests, askings and endings, on slice and ring.
 
-use buffered::fallible::FallibleBufferedInput;
+use buffered::FallibleBufferedInput;
 use error::{Fault, FaultKind, Refusal};
 use input::ticket::Reading;
 use input::{Closing, Input, calls};
-use source::codes::{Codes, CodesEnding};
+use source::{Codes, CodesEnding};
 use std::test::*;
-use str_input::text::StrInput;
+use str_input::StrInput;
 
 // A marker at the end, and one that goes on.
 fn finds_marker<I: Input>(input: &mut I, start: bool) -> bool {

@@ -1,18 +1,18 @@
 //! Lists taken through card, cable and radio.
 
-use buffered::fallible::FallibleBufferedInput;
+use buffered::FallibleBufferedInput;
+use calls::{Answer, Call, NoClass, ScanCall, SkipCall, Step};
+use card_and_cable::card_and_cable;
+use card_and_cable::radio::radio_and_card;
 use choice::OneOf;
 use error::{Fault, FaultKind};
 use input::ticket::Reading;
 use input::{Closing, Input};
-use reading::call::{Answer, Call, ScanCall, SkipCall, Step};
 use reading::list::side_by_side_scanning;
-use receiver::packets::Packets;
-use sides::card_and_cable;
-use sides::radio::radio_and_card;
-use source::codes::{Codes, CodesEnding};
+use receiver::Packets;
+use source::{Codes, CodesEnding};
 use std::test::*;
-use str_input::text::StrInput;
+use str_input::StrInput;
 
 // A card's slice or a cable's ring, by what was plugged in.
 type Plugged<'a> = OneOf<StrInput<'a>, FallibleBufferedInput<Codes<'a>>>;
@@ -22,7 +22,7 @@ pub(crate) const LOST: Fault = Fault {
     place: 2,
 };
 
-pub(crate) fn character(step: &Step) -> Option<char> {
+pub(crate) fn character(step: &Step<NoClass>) -> Option<char> {
     match step.answer {
         Answer::Character(c) => Some(c),
         Answer::Next(next) => next,
@@ -31,7 +31,7 @@ pub(crate) fn character(step: &Step) -> Option<char> {
 }
 
 // The fault that is told by an asking or a closing.
-pub(crate) fn fault(step: &Step) -> Option<Fault> {
+pub(crate) fn fault(step: &Step<NoClass>) -> Option<Fault> {
     match step.answer {
         Answer::Asked(fault) => fault,
         Answer::Closed(Closing::Failed(fault)) => Some(fault),
@@ -79,8 +79,7 @@ fn card_beside_cable(rt: HostRuntime) -> Result<(), Fail> {
 
 #[test]
 fn radio_beside_card(rt: HostRuntime) -> Result<(), Fail> {
-    let mut packets = Packets::new();
-    packets.load(&[None, Some('a'), None, Some('b')], CodesEnding::Clean)?;
+    let packets = Packets::of(&[None, Some('a'), None, Some('b')], CodesEnding::Clean)?;
     let mut one = [
         Step::new(Call::Read),
         Step::new(Call::LookCh),
@@ -103,7 +102,7 @@ fn radio_beside_card(rt: HostRuntime) -> Result<(), Fail> {
     Ok(())
 }
 
-fn blank_and_letter() -> [Step; 8] {
+fn blank_and_letter() -> [Step<NoClass>; 8] {
     [
         Step::new(Call::Open),
         Step::new(Call::Scan(ScanCall::SkipRun(SkipCall::WhileBlank))),

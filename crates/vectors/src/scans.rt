@@ -1,16 +1,14 @@
 //! The worked examples of scans, run on slice and rings.
 
-use buffered::buffered::BufferedInput;
+use buffered::BufferedInput;
+use calls::{Answer, Call, FetchCall, NoClass, ScanCall, Step};
+use card_and_cable::card_and_cable;
 use error::Refusal;
 use input::Input;
-use reading::call::{Answer, Call, FetchCall, ScanCall, Step};
-use runs::SkipTabs;
-use scan::Scan;
-use sides::card_and_cable;
-use source::codes::{Codes, CodesEnding};
-use source::text::TextChars;
+use runs::{Scan, SkipTabs};
+use source::{Codes, CodesEnding, TextChars};
 use std::test::*;
-use str_input::text::StrInput;
+use str_input::StrInput;
 
 // How many are skipped to the end of the line, and whether a tab and a space were.
 fn to_eol<I: Scan>(input: &mut I, tabs: SkipTabs) -> (usize, Result<(bool, bool), Refusal>) {
@@ -86,14 +84,14 @@ fn chunks_on_a_ring(rt: HostRuntime) -> Result<(), Fail> {
     Ok(())
 }
 
-fn fetched_of(step: &Step) -> Option<(usize, Option<Refusal>)> {
+fn fetched_of(step: &Step<NoClass>) -> Option<(usize, Option<Refusal>)> {
     match step.answer {
         Answer::Fetch(fetched) => Some((fetched.count, fetched.refusal)),
         _ => None,
     }
 }
 
-fn room_of(step: &Step) -> &[u8] {
+fn room_of(step: &Step<NoClass>) -> &[u8] {
     match &step.room {
         Some(room) => room.as_slice(),
         None => &[],

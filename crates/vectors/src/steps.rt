@@ -1,17 +1,14 @@
 //! How often a ring steps its source: as often as it must, once to find the end, and never after that.
 
-use buffered::buffered::BufferedInput;
-use buffered::fallible::FallibleBufferedInput;
+use buffered::{BufferedInput, FallibleBufferedInput};
 use error::Refusal;
 use input::Input;
 use input::ticket::Reading;
-use receiver::stash::Stash;
-use scan::Scan;
-use source::codes::{Codes, CodesEnding};
-use source::counted::Counted;
-use source::text::TextChars;
+use receiver::Stash;
+use runs::Scan;
+use source::{Codes, CodesEnding, Counted, TextChars};
 use std::test::*;
-use str_input::text::StrInput;
+use str_input::StrInput;
 
 fn cable(
     codes: &[u32],

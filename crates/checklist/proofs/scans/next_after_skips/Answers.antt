@@ -7,7 +7,7 @@ use Rattle.checklist.proofs.scans.next_after_skips.Goals as goal
 
 pub returns : goal.returns
 returns g c =
-    let e = c.skip_ws_to_eol.ensures.skims in
+    let e = c.skip_ws_to_eol.ensures.skips in
     let p = c.skip_plain_run.ensures in
     let s = c.skip_while_non_breakz.ensures in
     let n = c.next_ch.ensures in

@@ -3,7 +3,7 @@ use Rattle.std.specs.Result.{IsErrAnd}
 use Rattle.std.proofs.lemmas.Result.{err_from_is_err_and}
 use Rattle.error.specs.Numbers.{number, outcome}
 use Rattle.error.specs.declared.Refusal.{Refusal}
-use Rattle.reading.specs.Beside.{first, second}
+use Rattle.reading.specs.SameReadings.{first, second}
 use Rattle.reading.proofs.made.made_side_by_side.Goals as goal
 
 -- a maker's refusal is handed on
@@ -24,6 +24,6 @@ returns-clause-beside g c =
     let held = c.side_by_side_with-held.ensures in
     record {
       same = λ chars calls listed. held.same calls listed (one.all ∙ chars ∙ sym other.all);
-      one = record { start = _; end = _; fresh = one; placed = g.L.Made.placed c.args.a; account = held.left };
-      other = record { start = _; end = _; fresh = other; placed = g.R.Made.placed c.args.b; account = held.right };
+      one = record { start = _; end = _; fresh = one; placed = g.L.Made.placed c.args.a; account = held.one.account };
+      other = record { start = _; end = _; fresh = other; placed = g.R.Made.placed c.args.b; account = held.other.account };
     }

@@ -6,5 +6,6 @@ use Rattle.replay.proofs.kinds.ring_of_text.Goals as goal
 pub returns-clause-fresh : goal.returns-clause-fresh
 returns-clause-fresh c =
     let f = c.new-2.ensures.fresh in
-    let all = ap text_ahead c.new.ensures.below ∙ text_all c.load.new.self c.args.bytes.now c.in_ok-load.ensures.loads in
+    let s = c.in_ok-source in
+    let all = ap text_ahead c.new.ensures.below ∙ text_all s.source c.args.bytes.now s.ensures.all in
     record { new = f.new; manner = f.manner; all = f.all ∙ all; finish = f.finish }

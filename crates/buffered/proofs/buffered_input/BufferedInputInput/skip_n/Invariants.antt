@@ -1,18 +1,18 @@
 use Rattle.std.proofs.Common.{◌-◌, ◌≤◌, length}
 use Rattle.input.specs.Calls.{Skips}
-use Rattle.buffered.specs.Store.{all_of, Feeds, Frugal}
-use Rattle.buffered.specs.Buffered.{seen}
+use Rattle.buffered.specs.Feed.{feed_ahead, Feeds, Frugal}
+use Rattle.buffered.specs.Buffered.{ring_view}
 use Rattle.buffered.proofs.buffered_input.BufferedInputInput.skip_n.Given as goal
 
 abbrev pub invariant-loop-left : goal.invariant-loop-left
 invariant-loop-left g l =
     record {
       left : l.left ≤ l.count;
-      skips : Skips (l.count - l.left) (seen g.S.Source.ahead l.initial.self) (seen g.S.Source.ahead l.self);
-      feeds : Feeds g.S.Source.kept g.S.Source.ended l.initial.self.store l.self.store;
-      few : Frugal (l.count - l.left) l.self.window l.initial.self.store l.self.store;
+      skips : Skips (l.count - l.left) (ring_view g.S.Source.ahead l.initial.self) (ring_view g.S.Source.ahead l.self);
+      feeds : Feeds g.S.Source.kept g.S.Source.ended l.initial.self.feed l.self.feed;
+      few : Frugal (l.count - l.left) l.self.window l.initial.self.feed l.self.feed;
     }
 
 -- a count may be far more than what is ahead
 abbrev pub decreases-loop-left : goal.decreases-loop-left
-decreases-loop-left g l = length (all_of g.S.Source.ahead l.self.store)
+decreases-loop-left g l = length (feed_ahead g.S.Source.ahead l.self.feed)

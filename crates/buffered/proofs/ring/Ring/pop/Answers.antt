@@ -1,5 +1,5 @@
 use Rattle.std.proofs.Common.{arith}
-use Rattle.buffered.specs.Rings.{held_pop}
+use Rattle.buffered.proofs.Rings.{held_pop}
 use Rattle.buffered.proofs.ring.Ring.pop.Goals as goal
 
 pub returns : goal.returns

@@ -1,22 +1,23 @@
-use Rattle.std.proofs.Common.{◌≡◌, true, length, refl, arith, rules}
+use Rattle.std.proofs.Common.{◌≡◌, ◌<◌, true, length, arith, rules}
 use lib.Utf8.{scalar}
 use Rattle.input.specs.Held.{scalars_set}
-use Rattle.buffered.specs.Rings.{held_push}
+use Rattle.buffered.specs.RingLaws.{held_length}
+use Rattle.buffered.proofs.Rings.{held_push}
 use Rattle.buffered.proofs.ring.Ring.push.Goals as goal
 
 pub invariant_of-self : goal.invariant_of-self
 invariant_of-self c =
+    let r = c.args.self.now in
     let s : scalar c.args.c ≡ true = search rules in
     record {
-      characters = scalars_set c.args.self.now.places _ c.args.c s c.args.self.now.characters;
-      inside = c.args.self.now.inside;
-      room = omega (arith, c.requires);
+      characters = scalars_set r.places _ c.args.c s r.characters;
+      inside = r.inside;
+      room = omega (arith, c.requires, held_length r.places r.head r.len);
     }
 
 pub returns : goal.returns
 returns c =
-    let l : length c.args.self.now.places ≡ 16 = search rules in
-    record {
-      holds = held_push c.args.self.now.places c.args.self.now.head c.args.self.now.len c.args.c l c.requires;
-      len = refl;
-    }
+    let r = c.args.self.now in
+    let l : length r.places ≡ 16 = search rules in
+    let free : r.len < 16 = omega (arith, c.requires, held_length r.places r.head r.len) in
+    held_push r.places r.head r.len c.args.c l free

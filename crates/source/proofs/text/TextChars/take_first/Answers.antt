@@ -5,7 +5,8 @@ use Rattle.std.proofs.lemmas.List.{drop_all, take_rest}
 use Rattle.std.proofs.lemmas.Str.{chars-nil}
 use Rattle.utf8.specs.Decoding.{BeginsWith}
 use Rattle.source.specs.declared.text.TextChars.{TextChars}
-use Rattle.source.specs.Texts.{text_rest, rest_is_text}
+use Rattle.source.specs.Texts.{text_rest}
+use Rattle.source.specs.TextsLaws.{rest_is_text}
 use Rattle.source.proofs.Texts.{Passes, passes, passes_ascii}
 use Rattle.source.proofs.text.TextChars.take_first.Goals as goal
 

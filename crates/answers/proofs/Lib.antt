@@ -1,2 +1,0 @@
-pub mod Hex
-pub mod Written

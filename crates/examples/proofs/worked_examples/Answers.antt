@@ -1,5 +1,0 @@
-use Rattle.examples.proofs.Working.{worked}
-use Rattle.examples.proofs.worked_examples.Goals as goal
-
-pub returns : goal.returns
-returns g c = worked g.I.Input.Held

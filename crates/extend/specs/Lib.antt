@@ -1,0 +1,3 @@
+pub mod Decimal
+pub mod Keys
+pub mod KeysLaws

@@ -1,5 +1,0 @@
-use Rattle.sides.proofs.Made.{checked_second}
-use Rattle.sides.proofs.radio.radio_and_card.Goals as goal
-
-pub returns-clause-checked : goal.returns-clause-checked
-returns-clause-checked c = checked_second _ _ c.made_side_by_side.ensures.answers
