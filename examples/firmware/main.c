@@ -1,6 +1,7 @@
 /* Prints lines of a text by the reader:
        (cd crates/firmware && rt lib)
-       cc -O2 examples/firmware/main.c crates/firmware/out/libfirmware.a -o /tmp/firmware && /tmp/firmware */
+       cc -O2 examples/firmware/main.c crates/firmware/out/libfirmware.a -o crates/firmware/out/lines
+       crates/firmware/out/lines */
 #include <stdio.h>
 #include <string.h>
 

@@ -80,7 +80,8 @@ fn skip_lines<I: Input>(input: &mut I, lines: u32)
     }
 }
 
-/// Fetches a line of a text, counted from 0, into a room. Past the last line it is empty.
+/// Fetches a line of a text, counted from 0, into a room. Past the last line it is empty, and so it is past a
+/// NUL, at which a line ends and which is no break to skip.
 pub fn fetch_nth(text: &[u8], line: u32, room: &mut [u8]) -> Result<Fetched, Refusal>
     ensures checked { ChecksText text.now (outcome (λ _. []) result) }
     ensures line { MatchResult result
