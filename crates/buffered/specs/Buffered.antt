@@ -8,7 +8,7 @@ use Rattle.buffered.specs.Ring.{queue}
 use Rattle.buffered.specs.Feed.{feed_ahead, at_end}
 
 abbrev pub ring_manner : Manner
-ring_manner = record { prompt = true; steady = true; steps = true }
+ring_manner = record { prompt = true; steady = true; steps = true; most = 16 }
 
 -- what a ring is made of: a source, which ends clean
 abbrev pub ring_making : {S : Type 0} → (S → List ℕ) → S → Making

@@ -92,8 +92,6 @@ impl<S: Source> Input for BufferedInput<S> {
 
     ghost shown = { ring_shown };
 
-    ghost most = { λ _. 16 };
-
     ghost sound = { ring_sound S.ahead S.characters S.short };
 
     ghost faithful = { ring_faithful S.ahead };
@@ -102,7 +100,6 @@ impl<S: Source> Input for BufferedInput<S> {
 
     fn lookahead(&mut self, count: usize)
         ensures looks { Looks count (ring_view S.ahead self.old) (ring_view S.ahead self.new) }
-        ensures most { min count 16 ≤ self.new.window }
         ensures feeds { Feeds S.kept S.ended self.old.feed self.new.feed }
         ensures few { Frugal 0 self.new.window self.old.feed self.new.feed }
     {

@@ -1,6 +1,6 @@
 //! The ring over a source that may fail. It is the only ring over the adapter, and its ending is the failing source's.
 
-ghost use Rattle.std.specs.Prelude.{◌≡◌, ◌≤◌, min, max, true, false, cond, [], is_some, Some, None, IfOk};
+ghost use Rattle.std.specs.Prelude.{◌≡◌, ◌≤◌, max, true, false, cond, [], is_some, Some, None, IfOk};
 ghost use Rattle.error.specs.Numbers.{outcome};
 ghost use Rattle.input.specs.View.{IsFresh};
 ghost use Rattle.input.specs.Calls.{Looks, Reads, ReadsInLine, Skips, PeeksNext, TakesFault, none_left, taken_by};
@@ -71,8 +71,6 @@ impl<F: FallibleSource> Input for FallibleBufferedInput<F> {
 
     ghost shown = { λ x. ring_shown x.inner };
 
-    ghost most = { λ _. 16 };
-
     ghost sound = { failing_sound };
 
     ghost faithful = { failing_faithful };
@@ -81,7 +79,6 @@ impl<F: FallibleSource> Input for FallibleBufferedInput<F> {
 
     fn lookahead(&mut self, count: usize)
         ensures looks { Looks count (failing_view self.old) (failing_view self.new) }
-        ensures most { min count 16 ≤ self.new.inner.window }
         ensures few { Frugal 0 self.new.inner.window self.old.inner.feed self.new.inner.feed }
     {
         self.inner.lookahead(count);

@@ -1,5 +1,5 @@
 -- What each call means: what it says of the input before it, v, and after it, w.
-use Rattle.std.specs.Prelude.{◌≡◌, ℕ, ◌≤◌, min, Bool, true, false, ◌||◌, List, [], ◌∷◌, ◌++◌, Some, None, vec_items, Vec, Option, Result, slice_index}
+use Rattle.std.specs.Prelude.{◌≡◌, ℕ, Bool, true, false, ◌||◌, List, [], ◌∷◌, ◌++◌, Some, None, vec_items, Vec, Option, Result, slice_index}
 use Rattle.std.specs.Bool.{OnTrue}
 use Rattle.std.specs.Option.{option_to_list}
 use Rattle.std.specs.declared.alloc.Global.{Global}
@@ -28,6 +28,7 @@ use Rattle.calls.specs.declared.call.Call.TheVariants.{Lookahead, Added, LookCh,
 use Rattle.calls.specs.declared.call.Answer.{Answer}
 use Rattle.calls.specs.declared.call.Answer.TheVariants.{Nothing, Character, Next, Tested, Asked, Closed, Count, Fetch, Blanks, ToEol, SkippedChunk, FetchedChunk}
 use Rattle.calls.specs.declared.call.Step.{Step}
+use Rattle.calls.specs.declared.call.RoomlessStep.{RoomlessStep}
 
 -- the number of each answer, with its values
 abbrev pub answer_number : Answer → ℕ × List ℕ
@@ -123,12 +124,6 @@ module _ {C : Type 0} where
   fetch_look (FetchCall.PlainRun in_flow) manner = exactly 2
   fetch_look _ manner = scan_look manner
 
-  -- a lookahead raises the window to its count, as far as the input can always have it
-  abbrev pub RaisesWindow : {H : Type 0} → ℕ → Call C → View H → Type 0
-  RaisesWindow most (Lookahead n) w = min n most ≤ w.window
-  RaisesWindow most (Added n) w = min n most ≤ w.window
-  RaisesWindow most _ w = Unit {0}
-
   -- whether a reading is open after a call
   abbrev pub opens : Call C → Bool → Bool
   opens Open before = true
@@ -141,6 +136,10 @@ module _ {C : Type 0} where
       let before = room_bytes s.room in
       let after = room_bytes t.room in
       record { call = s.call; room = before; filled = s.filled; answer = t.answer; left = after }
+
+  -- the step that it stands for
+  abbrev pub as_step : RoomlessStep C → Step C
+  as_step s = record { call = s.call; room = None; filled = 0; answer = s.answer }
 
 module _ {C H : Type 0} (member : C → ℕ → Bool) where
   -- a chunk is some front of a plain run, and pinned where scans go character by character

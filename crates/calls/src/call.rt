@@ -201,3 +201,11 @@ impl<C: Copy> Step<C> {
         }
     }
 }
+
+/// One call of a list that brings no room, and its answer once it was made. A fetch of such a list
+/// has an empty room.
+#[derive(Clone, Copy)]
+pub struct RoomlessStep<C> {
+    pub call: Call<C>,
+    pub answer: Answer,
+}

@@ -6,7 +6,8 @@ mod performer;
 mod scanner;
 
 pub use call::{
-    Answer, Call, ClassTest, FetchCall, MarkerTest, NoClass, ScanCall, SkipCall, Step, Test,
+    Answer, Call, ClassTest, FetchCall, MarkerTest, NoClass, RoomlessStep, ScanCall, SkipCall,
+    Step, Test,
 };
 pub use performer::{answer_to, perform, test};
 pub use scanner::{ByCharacter, Own, Scanner};

@@ -3,7 +3,7 @@
 ghost use Rattle.std.specs.Prelude.{◌≡◌, is_some};
 ghost use Rattle.error.specs.Numbers.{outcome};
 ghost use Rattle.input.specs.Tests.{flag};
-ghost use Rattle.calls.specs.Entries.{class_of, test_number, entry_of, opens, RaisesWindow, Means, Performs};
+ghost use Rattle.calls.specs.Entries.{class_of, test_number, entry_of, opens, Means, Performs};
 
 use crate::call::{Answer, Call, ClassTest, MarkerTest, Step, Test};
 use crate::scanner::Scanner;
@@ -64,7 +64,6 @@ pub fn answer_to<C: Class + Copy, I: Input, S: Scanner<I>>(
           left = room.new;
         })
         (I.view input.old) (I.view input.new) }
-    ensures wide { RaisesWindow (I.most input.old) call (I.view input.new) }
 {
     match call {
         Call::Lookahead(n) | Call::Added(n) => {
@@ -107,7 +106,6 @@ pub fn perform<C: Class + Copy, I: Input, S: Scanner<I>>(
     ensures ticket { is_some result ≡ opens step.old.call (is_some held) }
     ensures made { Performs C.member (entry_of step.old step.new) (I.view input.old)
         (I.view input.new) }
-    ensures wide { RaisesWindow (I.most input.old) step.old.call (I.view input.new) }
 {
     let (answer, next) = match &mut step.room {
         Some(room) => answer_to::<C, I, S>(input, step.call, room, step.filled, held),

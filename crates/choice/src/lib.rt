@@ -26,13 +26,11 @@ impl<L: Input, R: Input> Input for OneOf<L, R> {
 
     ghost shown = { by_one L.shown R.shown };
 
-    ghost most = { by_one L.most R.most };
-
     ghost sound = { one_sound L.view R.view L.sound R.sound };
 
     ghost faithful = { one_faithful L.view R.view L.shown R.shown L.faithful R.faithful };
 
-    ghost wide = { one_wide L.most R.most L.wide R.wide };
+    ghost wide = { one_wide L.view R.view L.wide R.wide };
 
     fn lookahead(&mut self, count: usize) {
         match self {

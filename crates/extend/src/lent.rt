@@ -29,8 +29,6 @@ impl<I: Input> Input for Lent<'_, I> {
 
     ghost shown = { λ x. I.shown x.input.now };
 
-    ghost most = { λ x. I.most x.input.now };
-
     ghost sound = { λ x. I.sound x.input.now };
 
     ghost faithful = { λ x. I.faithful x.input.now };

@@ -53,9 +53,6 @@ impl<I: Input> Input for Tally<I> {
     /// What its peeks and tests answer.
     ghost shown = { λ x. I.shown x.input };
 
-    /// The window that a lookahead can always have.
-    ghost most = { λ x. I.most x.input };
-
     /// A proof that every value's view is sound.
     ghost sound = { λ x. I.sound x.input };
 

@@ -24,12 +24,13 @@ abbrev pub taken_by : Option ℕ → ℕ
 taken_by None = 0
 taken_by (Some c) = 1
 
--- the window is raised to a count, or to 16 if that is less
+-- the window is raised to a count, as far as the input can always have it, and to 16 at least
 pub record Looks {H : Type 0} (n : ℕ) (v w : View H) : Type 0 where
   pub keeps : Keeps false (exactly n) v w
   pub told : w.told ≡ v.told
   pub ahead : w.ahead ≡ v.ahead
   pub wide : min 16 n ≤ w.window
+  pub far : min n v.manner.most ≤ w.window
 
 pub record Reads {H : Type 0} (c : ℕ) (v w : View H) : Type 0 where
   pub keeps : Keeps (none_left v.ahead) (exactly 0) v w

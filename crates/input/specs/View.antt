@@ -12,6 +12,8 @@ pub record Manner : Type 0 where
   pub steady : Bool
   -- its scans go character by character, and ask for lookahead 1
   pub steps : Bool
+  -- the window that a lookahead can always have
+  pub most : ℕ
 
 -- The characters ahead, the window, the ending, whether it is met, and whether its fault was told; what it holds below it, for a ring its source.
 pub record View (H : Type 0) : Type 0 where

@@ -1,7 +1,7 @@
 //! What a scanner reads from.
 #![tactic(auto)]
 
-ghost use Rattle.std.specs.Prelude.{◌≡◌, ℕ, ◌≤◌, min, true, if◌then◌else◌, Some, None};
+ghost use Rattle.std.specs.Prelude.{◌≡◌, ◌≤◌, true, if◌then◌else◌, Some, None};
 ghost use Rattle.error.specs.Numbers.{fault_of, outcome};
 ghost use Rattle.input.specs.View.{View, IsSound};
 ghost use Rattle.input.specs.Calls.{Looks, Reads, ReadsInLine, Skips, PeeksNext, TakesFault};
@@ -52,9 +52,6 @@ pub trait Input {
     /// What its peeks and tests answer, at every place and window.
     ghost shown: { Self → Shown };
 
-    /// The window that a lookahead can always have.
-    ghost most: { Self → ℕ };
-
     /// A law: what is ahead are characters, and no more than a text may have, beside 16 that are
     /// held; where less is ahead than the window, the ending is met.
     ghost sound: { (x : Self) → IsSound (view x) };
@@ -63,12 +60,11 @@ pub trait Input {
     ghost faithful: { (x : Self) → IsFaithful (shown x) (view x) };
 
     /// A law: a window of 16 can always be had.
-    ghost wide: { (x : Self) → 16 ≤ most x };
+    ghost wide: { (x : Self) → 16 ≤ (view x).manner.most };
 
     /// Raises the window to the count, as far as it goes. What is ahead stays.
     fn lookahead(&mut self, count: usize)
-        ensures looks { Looks count (view self.old) (view self.new) }
-        ensures most { min count (most self.old) ≤ (view self.new).window };
+        ensures looks { Looks count (view self.old) (view self.new) };
 
     /// The window.
     fn buflen(&self) -> usize
@@ -76,7 +72,7 @@ pub trait Input {
 
     /// The window that a lookahead can always have: 16 or more.
     fn bufmaxlen(&self) -> usize
-        ensures { result ≡ most self.now };
+        ensures { result ≡ (view self.now).manner.most };
 
     /// Takes the first character; at the end gives NUL and takes nothing.
     fn raw_read_ch(&mut self) -> char

@@ -6,7 +6,7 @@ use Rattle.input.specs.Tests.{Shown}
 use Rattle.calls.specs.declared.call.Answer.{Answer}
 use Rattle.calls.specs.declared.call.Call.{Call}
 use Rattle.calls.specs.declared.call.NoClass.{NoClass}
-use Rattle.calls.specs.Entries.{Entry, Means, RaisesWindow, filled_after}
+use Rattle.calls.specs.Entries.{Entry, Means, filled_after}
 use Rattle.calls.specs.Kinds.{kind_of}
 use Rattle.protocol.specs.declared.names.Probe.{Probe}
 use Rattle.protocol.specs.Answers.{answer_text, part_text, steps_text, line_of}
@@ -27,12 +27,11 @@ entry call room filled answer left =
 abbrev pub appended_bytes : Entry NoClass → List ℕ
 appended_bytes e = slice_range e.left e.filled (filled_after e.filled e.answer)
 
--- A call of an input that shows this, and can always have such a lookahead, went as the language of
--- calls says, and its line tells its answer.
-pub record AnswersCall {H : Type 0} (s : Shown) (most : ℕ) (e : Entry NoClass) (line : List ℕ)
-    (v w : View H) : Type 0 where
+-- A call of an input that shows this went as the language of calls says, and its line tells its
+-- answer.
+pub record AnswersCall {H : Type 0} (s : Shown) (e : Entry NoClass) (line : List ℕ) (v w : View H)
+    : Type 0 where
   pub means : Means no_member s e.call e v w
-  pub wide : RaisesWindow most e.call w
   pub tells : line ≡ line_of (answer_text e.answer (appended_bytes e))
 
 -- a fetch has the room that is next, and another call has none
@@ -48,20 +47,20 @@ RoomsGo true left x y = IsLastRoom left y
 RoomsGo false left x y = y ≡ x
 
 -- the line that a call is answered with
-pub record Plays {H : Type 0} (s : Shown) (most : ℕ) (call : Call NoClass) (line : List ℕ)
-    (x y : Rooms) (v w : View H) : Type 0 where
+pub record Plays {H : Type 0} (s : Shown) (call : Call NoClass) (line : List ℕ) (x y : Rooms)
+    (v w : View H) : Type 0 where
   pub answer : Answer
   pub left : List ℕ
-  pub goes : AnswersCall s most (entry call (room_of call x) (filled_of call x) answer left) line v w
+  pub goes : AnswersCall s (entry call (room_of call x) (filled_of call x) answer left) line v w
   pub rooms : RoomsGo (kind_of call).fetches left x y
 
--- the line that a probe is answered with, of an input that can always have such a lookahead, has a
--- source that was stepped so often or none, and lends these parts
-abbrev pub Probes : {H : Type 0} → ℕ → Option ℕ → (ℕ → ℕ → Option (List ℕ) → Type 0) → Probe
+-- the line that a probe is answered with, of an input that has a source which was stepped so often,
+-- or none, and lends these parts
+abbrev pub Probes : {H : Type 0} → Option ℕ → (ℕ → ℕ → Option (List ℕ) → Type 0) → Probe
     → List ℕ → View H → Type 0
-Probes most stepped Lends Probe.Buflen line v = line ≡ line_of (decimal v.window)
-Probes most stepped Lends Probe.Bufmaxlen line v = line ≡ line_of (decimal most)
-Probes most stepped Lends Probe.BufIsEmpty line v = line ≡ line_of (truth_name (v.window == 0))
-Probes most stepped Lends (Probe.SliceBorrowed start end) line v =
+Probes stepped Lends Probe.Buflen line v = line ≡ line_of (decimal v.window)
+Probes stepped Lends Probe.Bufmaxlen line v = line ≡ line_of (decimal v.manner.most)
+Probes stepped Lends Probe.BufIsEmpty line v = line ≡ line_of (truth_name (v.window == 0))
+Probes stepped Lends (Probe.SliceBorrowed start end) line v =
     (part : Option (List ℕ)) × Lends start end part × (line ≡ line_of (part_text part))
-Probes most stepped Lends Probe.Steps line v = line ≡ line_of (steps_text stepped)
+Probes stepped Lends Probe.Steps line v = line ≡ line_of (steps_text stepped)

@@ -9,12 +9,12 @@ use Rattle.player.specs.Plays.{Plays, Probes}
 use Rattle.player.specs.Aside.{AsideLine, AsideRooms}
 
 -- a call is made of the input, and every other command leaves it as it was
-abbrev pub Turns : {H : Type 0} → Shown → ℕ → Option ℕ → (ℕ → ℕ → Option (List ℕ) → Type 0)
+abbrev pub Turns : {H : Type 0} → Shown → Option ℕ → (ℕ → ℕ → Option (List ℕ) → Type 0)
     → Command → List ℕ → Rooms → Rooms → View H → View H → Type 0
-Turns s most stepped Lends (Command.Call call) line x y v w = Plays s most call line x y v w
-Turns s most stepped Lends (Command.Probe probe) line x y v w =
-    Probes most stepped Lends probe line v × (y ≡ x) × (w ≡ v)
-Turns s most stepped Lends command line x y v w =
+Turns s stepped Lends (Command.Call call) line x y v w = Plays s call line x y v w
+Turns s stepped Lends (Command.Probe probe) line x y v w =
+    Probes stepped Lends probe line v × (y ≡ x) × (w ≡ v)
+Turns s stepped Lends command line x y v w =
     AsideLine command x line × AsideRooms command x y × (w ≡ v)
 
 abbrev pub open_next : Command → Bool → Bool

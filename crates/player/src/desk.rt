@@ -9,9 +9,9 @@ ghost use Rattle.player.specs.Turns.{Turns, open_next};
 use crate::play::probe_line;
 use crate::predicates::class_answer;
 use crate::rooms::Rooms;
+use crate::steps::StepCount;
 use calls::Answer;
 use input::borrowed::BorrowedInput;
-use input::stepped::Stepped;
 use input::ticket::Reading;
 use protocol::{Command, Reply, push_answer, push_reply};
 use runs::Scan;
@@ -66,7 +66,7 @@ impl Desk {
     }
 
     /// Answers a command with an input, and hands on the ticket of an open reading.
-    pub(crate) fn turn<'a, I: Scan + BorrowedInput<'a> + Stepped>(
+    pub(crate) fn turn<'a, N: StepCount<I>, I: Scan + BorrowedInput<'a>>(
         &mut self,
         input: &mut I,
         command: Command,
@@ -74,13 +74,13 @@ impl Desk {
     ) -> (Result<(), AllocError>, Option<Reading>)
         ensures line { OnOk result.0 ((line : List ℕ)
             × (string_bytes self.new.out ≡ string_bytes self.old.out ++ line)
-            × Turns (I.shown input.old) (I.most input.old) (I.stepped input.old) (I.Lends input.old)
+            × Turns (I.shown input.old) (N.stepped input.old) (I.Lends input.old)
             command line self.old.rooms self.new.rooms (I.view input.old) (I.view input.new)) }
         ensures held { is_some result.1 ≡ open_next command (is_some held) }
     {
         match command {
             Command::Call(call) => self.rooms.play(input, call, held, &mut self.out),
-            Command::Probe(probe) => (probe_line(input, probe, &mut self.out), held),
+            Command::Probe(probe) => (probe_line::<N, I>(input, probe, &mut self.out), held),
             other => (self.aside(other), held),
         }
     }

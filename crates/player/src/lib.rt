@@ -6,7 +6,8 @@ mod list;
 mod play;
 mod predicates;
 mod rooms;
+mod steps;
 mod usual;
 
 pub use desk::Desk;
-pub use list::{Lines, idle, serve};
+pub use list::{Lines, idle, serve, serve_counted};

@@ -4,6 +4,7 @@ ghost use Rattle.std.specs.Prelude.{◌≡◌, ◌<◌, ◌≤◌, [], length, s
 ghost use Rattle.player.specs.Lines.{IsLineFeed, TakesLine, Leaves};
 
 use crate::desk::Desk;
+use crate::steps::{Counting, StepCount, Uncounted};
 use input::borrowed::BorrowedInput;
 use input::stepped::Stepped;
 use input::ticket::Reading;
@@ -87,10 +88,10 @@ fn settle(done: Result<(), AllocError>, rt: &impl Print, desk: &mut Desk) -> io:
     desk.flush_if_large(rt)
 }
 
-/// Answers commands with an input, and at last closes the reading that is open. Tells the line that
-/// asks for the next new input, or that there is none.
+/// Answers commands with an input, and by `N` how often its source was stepped; at last closes the
+/// reading that is open. Tells the line that asks for the next new input, or that there is none.
 #[tactic(auto, using(crate::proofs::TakenLines::shorter, crate::proofs::TakenLines::passed_none, crate::proofs::TakenLines::passed_more, crate::proofs::TakenLines::leaves_none, crate::proofs::TakenLines::leaves_some))]
-pub fn serve<'a, 'b, I: Scan + BorrowedInput<'a> + Stepped>(
+fn serve_by<'a, 'b, N: StepCount<I>, I: Scan + BorrowedInput<'a>>(
     rt: &impl Print,
     input: &mut I,
     lines: &mut Lines<'b>,
@@ -107,7 +108,7 @@ pub fn serve<'a, 'b, I: Scan + BorrowedInput<'a> + Stepped>(
             Command::New => break Ok(Some(line)),
             command => command,
         };
-        let (done, next) = desk.turn(input, command, held);
+        let (done, next) = desk.turn::<N, I>(input, command, held);
         held = next;
         if let Err(e) = settle(done, rt, desk) {
             break Err(e);
@@ -115,4 +116,31 @@ pub fn serve<'a, 'b, I: Scan + BorrowedInput<'a> + Stepped>(
     };
     let _ = Reading::close_held(held, input);
     stopped
+}
+
+/// Answers commands with an input, of whose source no steps are told, and at last closes the
+/// reading that is open. Tells the line that asks for the next new input, or that there is none.
+pub fn serve<'a, 'b, I: Scan + BorrowedInput<'a>>(
+    rt: &impl Print,
+    input: &mut I,
+    lines: &mut Lines<'b>,
+    desk: &mut Desk,
+) -> io::Result<Option<&'b [u8]>>
+    ensures { IfOk result (λ asked. Leaves lines.old.rest.now asked lines.new.rest.now) }
+{
+    serve_by::<Uncounted, I>(rt, input, lines, desk)
+}
+
+/// Answers commands with an input that tells how often its source was stepped, and at last closes
+/// the reading that is open. Tells the line that asks for the next new input, or that there is
+/// none.
+pub fn serve_counted<'a, 'b, I: Scan + BorrowedInput<'a> + Stepped>(
+    rt: &impl Print,
+    input: &mut I,
+    lines: &mut Lines<'b>,
+    desk: &mut Desk,
+) -> io::Result<Option<&'b [u8]>>
+    ensures { IfOk result (λ asked. Leaves lines.old.rest.now asked lines.new.rest.now) }
+{
+    serve_by::<Counting, I>(rt, input, lines, desk)
 }

@@ -7,10 +7,10 @@ ghost use Rattle.calls.specs.Kinds.{kind_of};
 ghost use Rattle.player.specs.Rooms.{Lays};
 ghost use Rattle.player.specs.Plays.{entry, AnswersCall, Probes};
 
+use crate::steps::StepCount;
 use calls::{Answer, Call, NoClass, Own, answer_to};
 use input::Input;
 use input::borrowed::BorrowedInput;
-use input::stepped::Stepped;
 use input::ticket::Reading;
 use protocol::{Probe, Reply, push_answer, push_part, push_reply};
 use runs::Scan;
@@ -34,7 +34,7 @@ pub(crate) fn call_line<I: Scan>(
 ) -> (Result<(), AllocError>, Option<Reading>)
     ensures line { (line : List ℕ) × (a : Answer) × (left : List ℕ)
         × OnOk result.0 (string_bytes out.new ≡ string_bytes out.old ++ line)
-        × AnswersCall (I.shown input.old) (I.most input.old) (entry call [] 0 a left) line
+        × AnswersCall (I.shown input.old) (entry call [] 0 a left) line
         (I.view input.old) (I.view input.new) }
     ensures held { is_some result.1 ≡ opens call (is_some held) }
 {
@@ -56,7 +56,7 @@ pub(crate) fn fetch_line<I: Scan>(
     ensures line { (line : List ℕ) × (a : Answer)
         × OnOk result.0 (string_bytes out.new ≡ string_bytes out.old ++ line)
         × (result.2 ≡ filled_after filled a)
-        × AnswersCall (I.shown input.old) (I.most input.old) (entry fetch room.old filled a room.new) line
+        × AnswersCall (I.shown input.old) (entry fetch room.old filled a room.new) line
         (I.view input.old) (I.view input.new) }
     ensures lays { Lays room.old filled room.new result.2 }
     ensures held { is_some result.1 ≡ opens fetch (is_some held) }
@@ -68,13 +68,13 @@ pub(crate) fn fetch_line<I: Scan>(
 }
 
 /// Answers a probe with a line.
-pub(crate) fn probe_line<'a, I: Input + BorrowedInput<'a> + Stepped>(
+pub(crate) fn probe_line<'a, N: StepCount<I>, I: Input + BorrowedInput<'a>>(
     input: &I,
     probe: Probe,
     out: &mut String,
 ) -> Result<(), AllocError>
     ensures { (line : List ℕ) × OnOk result (string_bytes out.new ≡ string_bytes out.old ++ line)
-        × Probes (I.most input.now) (I.stepped input.now) (I.Lends input.now) probe line
+        × Probes (N.stepped input.now) (I.Lends input.now) probe line
         (I.view input.now) }
 {
     match probe {
@@ -88,6 +88,6 @@ pub(crate) fn probe_line<'a, I: Input + BorrowedInput<'a> + Stepped>(
             )
         }
         Probe::SliceBorrowed(start, end) => push_part(out, input.slice_borrowed(start, end)),
-        Probe::Steps => push_reply(out, Reply::Steps(input.steps())),
+        Probe::Steps => push_reply(out, Reply::Steps(N::steps(input))),
     }
 }

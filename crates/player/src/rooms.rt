@@ -76,7 +76,7 @@ impl Room {
         ensures line { (line : List ℕ) × (a : Answer)
             × OnOk result.0 (string_bytes out.new ≡ string_bytes out.old ++ line)
             × (self.new.filled ≡ filled_after self.old.filled a)
-            × AnswersCall (I.shown input.old) (I.most input.old)
+            × AnswersCall (I.shown input.old)
             (entry fetch (vec_items self.old.bytes) self.old.filled a (vec_items self.new.bytes))
             line (I.view input.old) (I.view input.new) }
         ensures held { is_some result.1 ≡ opens fetch (is_some held) }
@@ -132,7 +132,7 @@ impl Rooms {
     ) -> (Result<(), AllocError>, Option<Reading>)
         ensures line { (line : List ℕ)
             × OnOk result.0 (string_bytes out.new ≡ string_bytes out.old ++ line)
-            × Plays (I.shown input.old) (I.most input.old) call line self.old self.new
+            × Plays (I.shown input.old) call line self.old self.new
             (I.view input.old) (I.view input.new) }
         ensures held { is_some result.1 ≡ opens call (is_some held) }
     {

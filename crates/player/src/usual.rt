@@ -83,7 +83,7 @@ impl Usual {
         ensures line { (line : List ℕ) × (a : Answer)
             × OnOk result.0 (string_bytes out.new ≡ string_bytes out.old ++ line)
             × (self.new.filled ≡ filled_after 0 a)
-            × AnswersCall (I.shown input.old) (I.most input.old)
+            × AnswersCall (I.shown input.old)
             (entry fetch (untouched usual_size) 0 a (vec_items self.new.bytes)) line
             (I.view input.old) (I.view input.new) }
         ensures held { is_some result.1 ≡ opens fetch (is_some held) }

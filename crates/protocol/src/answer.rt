@@ -48,7 +48,7 @@ fn kind_name(kind: FaultKind) -> &'static str
 
 /// A fault's kind and place.
 #[derive(Clone, Copy)]
-pub(crate) struct FaultText(pub(crate) Fault);
+pub struct FaultText(pub Fault);
 
 impl fmt::Display for FaultText {
     ghost output = { λ fault. Some (fault_text fault.0) };
@@ -62,7 +62,7 @@ impl fmt::Display for FaultText {
 
 /// A character by its code.
 #[derive(Clone, Copy)]
-pub(crate) struct CodeText(pub(crate) char);
+pub struct CodeText(pub char);
 
 impl fmt::Display for CodeText {
     ghost output = { λ code. Some (code_text code.0) };
@@ -76,7 +76,7 @@ impl fmt::Display for CodeText {
 
 /// A refusal's number, and its place if it has one.
 #[derive(Clone, Copy)]
-pub(crate) struct RefusalText(pub(crate) Refusal);
+pub struct RefusalText(pub Refusal);
 
 impl fmt::Display for RefusalText {
     ghost output = { λ refusal. Some (refusal_text refusal.0) };
@@ -92,7 +92,7 @@ impl fmt::Display for RefusalText {
 
 /// How a reading ended.
 #[derive(Clone, Copy)]
-pub(crate) struct ClosingText(pub(crate) Closing);
+pub struct ClosingText(pub Closing);
 
 impl fmt::Display for ClosingText {
     ghost output = { λ closing. Some (closing_text closing.0) };

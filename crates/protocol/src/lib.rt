@@ -10,8 +10,10 @@ mod make;
 mod names;
 mod values;
 
-pub use answer::Reply;
+pub use answer::{ClosingText, CodeText, FaultText, RefusalText, Reply};
 pub use command::{Command, parse};
+pub use digits::push_bytes;
 pub use line::{push_answer, push_part, push_reply, push_room};
 pub use make::{Make, parse_new};
 pub use names::{Predicate, Probe};
+pub use values::{bytes_of, code_of, count_of, truth_of};

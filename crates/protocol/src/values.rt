@@ -8,21 +8,21 @@ use runs::SkipTabs;
 use std::alloc::{AllocError, Global};
 
 /// A count, in decimal digits.
-pub(crate) fn count_of(word: &str) -> Option<usize>
+pub fn count_of(word: &str) -> Option<usize>
     ensures { ReadsNumber 64 10 word.now result }
 {
     usize::from_str_radix(word, 10).ok()
 }
 
 /// A code, in hexadecimal digits.
-pub(crate) fn code_of(word: &str) -> Option<u32>
+pub fn code_of(word: &str) -> Option<u32>
     ensures { ReadsNumber 32 16 word.now result }
 {
     u32::from_str_radix(word, 16).ok()
 }
 
 /// `true` or `false`.
-pub(crate) fn truth_of(word: &str) -> Option<bool>
+pub fn truth_of(word: &str) -> Option<bool>
     ensures { IsNamed truth_name word.now result }
 {
     word.parse().ok()
@@ -56,7 +56,7 @@ fn byte_of(high: u8, low: u8) -> Option<u8>
 }
 
 /// Bytes, two hexadecimal digits each.
-pub(crate) fn bytes_of(heap: Global, word: &[u8]) -> Result<Option<Vec<u8>>, AllocError>
+pub fn bytes_of(heap: Global, word: &[u8]) -> Result<Option<Vec<u8>>, AllocError>
     ensures { IfOk result (λ told. SpellsSome word.now told) }
 {
     let (pairs, rest) = word.as_chunks::<2>();

@@ -16,7 +16,7 @@ pub use buffered::{BufferedInput, FallibleBufferedInput};
 pub use str_input::StrInput;
 
 // where characters come from
-pub use source::{ByteChars, CODE_LIMIT, Codes, CodesEnding, Counted, TextChars};
+pub use source::{ByteChars, CODE_LIMIT, Codes, CodesEnding, Counted, TextChars, is_too_many};
 
 // how it is read: the calls of every input, those that scan, and the ticket of a reading
 pub use input::borrowed::BorrowedInput;

@@ -10,7 +10,7 @@ use Rattle.receiver.specs.Drawn.{drawn_ahead, drawn_ending}
 
 -- its window stays, its scans go character by character, and it may meet its ending early
 abbrev pub stash_manner : Manner
-stash_manner = record { prompt = false; steady = true; steps = true }
+stash_manner = record { prompt = false; steady = true; steps = true; most = 16 }
 
 -- what a stash is made of: a source
 abbrev pub stash_making : {S : Type 0} → (S → List ℕ) → (S → Ending) → (S → ℕ) → S → Making

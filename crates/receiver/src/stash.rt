@@ -66,8 +66,6 @@ impl<S: FallibleSource> Input for Stash<S> {
 
     ghost shown = { stash_shown };
 
-    ghost most = { λ _. 16 };
-
     ghost sound = { stash_sound S.ahead S.ending S.characters S.short };
 
     ghost faithful = { stash_faithful S.ahead S.ending };

@@ -22,7 +22,7 @@ use error::Refusal;
 use input::borrowed::BorrowedInput;
 use input::made::Made;
 use input::stepped::Stepped;
-use player::{Desk, Lines, idle, serve};
+use player::{Desk, Lines, idle, serve_counted};
 use protocol::Reply;
 use runs::Scan;
 use source::{ByteChars, Codes, CodesEnding, Counted, TextChars};
@@ -90,7 +90,7 @@ pub(crate) fn on<'a, 'b, I: Scan + BorrowedInput<'a> + Stepped + Drop>(
     match made {
         Ok(mut input) => {
             desk.begin(Reply::Done)?;
-            serve(rt, &mut input, lines, desk)
+            serve_counted(rt, &mut input, lines, desk)
         }
         Err(refusal) => {
             desk.begin(Reply::Refused(refusal))?;

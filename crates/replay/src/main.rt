@@ -6,6 +6,8 @@ ghost use Rattle.std.specs.Prelude.{IfOk};
 ghost use Rattle.player.specs.Lines.{Leaves};
 
 mod kinds;
+#[cfg(test)]
+mod tests;
 
 use kinds::{on, ring_of_bytes, ring_of_codes, ring_of_text, slice};
 use player::{Desk, Lines, idle};

@@ -130,7 +130,8 @@ module _ {H : Type 0} (count : ℕ) (look : Look) (v e w : View H) (few : count 
 
 -- a call that looks no further
 pub looks_none : {H : Type 0} (v : View H) → IsSound v → Looks 0 v v
-looks_none v s = record { keeps = still v s; told = refl; ahead = refl; wide = omega arith }
+looks_none v s =
+    record { keeps = still v s; told = refl; ahead = refl; wide = omega arith; far = omega arith }
 
 -- of two runs that are as long
 pub skips_as : {H : Type 0} (looks : Bool) (look : Look) (one other : List ℕ) (n : ℕ) (v w : View H) → n ≡ length other → SkipsRun looks look one n v w

@@ -15,7 +15,7 @@ ahead_of x = ahead_from x.at
 
 -- its ending is met from the start; lookaheads alone raise its window, and its scans leave it
 abbrev pub text_manner : Manner
-text_manner = record { prompt = false; steady = true; steps = false }
+text_manner = record { prompt = false; steady = true; steps = false; most = 128 }
 
 -- all of the text is at hand: the ending is met, and it is clean
 abbrev pub text_view : StrInput → View (Unit {0})

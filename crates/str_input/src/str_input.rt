@@ -2,7 +2,7 @@
 
 mod scans;
 
-ghost use Rattle.std.specs.Prelude.{◌≡◌, ◌≤◌, min, [], length, None, MatchResult, IfOk};
+ghost use Rattle.std.specs.Prelude.{◌≡◌, ◌≤◌, [], length, None, MatchResult, IfOk};
 ghost use Rattle.error.specs.Limit.{text_limit};
 ghost use Rattle.error.specs.Numbers.{outcome};
 ghost use Rattle.utf8.specs.Checking.{ChecksText};
@@ -86,8 +86,6 @@ impl Input for StrInput<'_> {
 
     ghost shown = { text_shown };
 
-    ghost most = { λ _. 128 };
-
     ghost sound = { text_sound };
 
     ghost faithful = { text_faithful };
@@ -96,7 +94,6 @@ impl Input for StrInput<'_> {
 
     fn lookahead(&mut self, count: usize)
         ensures looks { Looks count (text_view self.old) (text_view self.new) }
-        ensures most { min count 128 ≤ (text_view self.new).window }
         ensures widens { Widens count self.old self.new }
     {
         self.window = self.window.max(count);

@@ -212,8 +212,9 @@ fn ends_marker(text: &[u8], at: usize) -> bool
     at == text.len() || is_blank_or_breakz(char::from(text[at]))
 }
 
-/// Whether a place is between two characters of a text, or at its start or end.
-fn is_boundary(text: &[u8], at: usize) -> bool
+/// Whether a place is between two characters of a text, or at its start or end. Of any bytes it tells whether the place is
+/// at their end, or before a byte that begins no later byte of a character.
+pub fn is_boundary(text: &[u8], at: usize) -> bool
     ensures { Decides result (IsCharBoundary text.now at) }
 {
     at == text.len() || (at < text.len() && (text[at] < 0x80 || text[at] >= 0xC0))

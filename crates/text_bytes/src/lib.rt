@@ -4,4 +4,4 @@
 mod cursor;
 mod spans;
 
-pub use crate::cursor::Cursor;
+pub use crate::cursor::{Cursor, is_boundary};

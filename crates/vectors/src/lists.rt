@@ -1,14 +1,14 @@
 //! Lists taken through card, cable and radio.
 
 use buffered::FallibleBufferedInput;
-use calls::{Answer, Call, NoClass, ScanCall, SkipCall, Step};
+use calls::{Answer, Call, NoClass, RoomlessStep, ScanCall, SkipCall, Step};
 use card_and_cable::card_and_cable;
 use card_and_cable::radio::radio_and_card;
 use choice::OneOf;
 use error::{Fault, FaultKind};
 use input::ticket::Reading;
 use input::{Closing, Input};
-use reading::list::side_by_side_scanning;
+use reading::list::{run_roomless, side_by_side_roomless, side_by_side_scanning};
 use receiver::Packets;
 use source::{Codes, CodesEnding};
 use std::test::*;
@@ -146,5 +146,59 @@ fn plugged_in_card_beside_cable(rt: HostRuntime) -> Result<(), Fail> {
     assert_eq!(rt; fault(&other[6]), None);
     assert!(rt; matches!(one[7].answer, Answer::Closed(Closing::Whole)));
     assert_eq!(rt; fault(&other[7]), Some(LOST));
+    Ok(())
+}
+
+fn roomless(call: Call<NoClass>) -> RoomlessStep<NoClass> {
+    RoomlessStep {
+        call,
+        answer: Answer::Nothing,
+    }
+}
+
+// A list whose calls bring no room is copied, and its copies go through a slice, beside a ring, and
+// through a slice again.
+#[test]
+fn copied_list(rt: HostRuntime) -> Result<(), Fail> {
+    let list = [
+        roomless(Call::Open),
+        roomless(Call::Lookahead(2)),
+        roomless(Call::PeekNth(1)),
+        roomless(Call::Read),
+        roomless(Call::Scan(ScanCall::SkipRun(SkipCall::WhileNonBreakz))),
+        roomless(Call::NextCh),
+        roomless(Call::TakeSourceError),
+        roomless(Call::Close),
+    ];
+    let mut source = Codes::new();
+    source.load(&[0x61, 0xE9, 0x62], CodesEnding::InputIo)?;
+    let mut ring = FallibleBufferedInput::new(source);
+    let mut slice = StrInput::new();
+    slice.load("aéb".as_bytes())?;
+    let mut again = StrInput::new();
+    again.load("aéb".as_bytes())?;
+    let mut one = list;
+    let mut other = list;
+    let (held, beside) = side_by_side_roomless(
+        &mut slice, &mut ring, &mut one, &mut other, None, None,
+    );
+    let _ = Reading::close_held(held, &mut slice);
+    let _ = Reading::close_held(beside, &mut ring);
+    assert!(rt; matches!(one[2].answer, Answer::Character('é')));
+    assert!(rt; matches!(other[2].answer, Answer::Character('é')));
+    assert!(rt; matches!(one[3].answer, Answer::Character('a')));
+    assert!(rt; matches!(other[3].answer, Answer::Character('a')));
+    assert!(rt; matches!(one[4].answer, Answer::Count(2)));
+    assert!(rt; matches!(other[4].answer, Answer::Count(2)));
+    assert!(rt; matches!(one[5].answer, Answer::Next(None)));
+    assert!(rt; matches!(other[5].answer, Answer::Next(None)));
+    assert!(rt; matches!(one[7].answer, Answer::Closed(Closing::Whole)));
+    assert!(rt; matches!(other[7].answer, Answer::Closed(Closing::Failed(_))));
+    let mut copy = one;
+    let held = run_roomless(&mut again, None, &mut copy);
+    let _ = Reading::close_held(held, &mut again);
+    assert!(rt; matches!(copy[4].answer, Answer::Count(2)));
+    assert!(rt; matches!(copy[7].answer, Answer::Closed(Closing::Whole)));
+    assert!(rt; matches!(list[4].answer, Answer::Nothing));
     Ok(())
 }

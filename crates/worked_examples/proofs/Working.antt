@@ -6,6 +6,7 @@ use Rattle.std.specs.Bool.{OnTrue}
 use Rattle.error.specs.Numbers.{fault_of}
 use Rattle.char_traits.specs.Chars.{yaml_non_space}
 use Rattle.utf8.specs.Room.{overlay}
+use Rattle.source.specs.declared.codes.Codes.{Codes}
 use Rattle.input.specs.View.{Manner}
 use Rattle.input.specs.Calls.{none_left}
 use Rattle.input.specs.Tests.{flag, start_marker, marker_in}
@@ -16,7 +17,7 @@ use Rattle.runs.specs.Runs.{run_of, plain_run, chunk_run, colon_at, eol_run, bla
 use Rattle.runs.specs.Rooms.{front_that_fits, part, refusal_number}
 use Rattle.runs.specs.Scans.{flags_of, StepsChunk}
 use Rattle.runs.proofs.Laying.{fit_one, fit_none}
-use Rattle.worked_examples.specs.Worked.{Worked, hot_line, EolGives, StartIs, PlainIs, ChunkIs, HalfFetched, NulIsNoEnd, pulled, ToldOnce}
+use Rattle.worked_examples.specs.Worked.{Worked, hot_line, EolGives, StartIs, PlainIs, PromptChunkIs, ChunkIs, HalfFetched, NulIsNoEnd, pulled, PromptToldOnce, ToldOnce}
 
 one_byte : (c : ℕ) → c < 128 → length (encode c) ≡ 1
 one_byte c h = ap length (encode_ascii c h)
@@ -32,6 +33,10 @@ ab_fits =
 
 ab_bytes : encodes (0x61 ∷ 0x62 ∷ []) ≡ 0x61 ∷ 0x62 ∷ []
 ab_bytes = let a = encode_ascii 0x61 (omega arith) in let b = encode_ascii 0x62 (omega arith) in λ t. a t ++ (b t ++ [])
+
+up_to_one : (b : Bool) → cond {A = ℕ} b 1 0 ≤ 1
+up_to_one true = omega arith
+up_to_one false = omega arith
 
 module _ (H : Type 0) where
   eol : (tabs : SkipTabs) (ahead : List ℕ) (count : ℕ) (answer : ℕ × List ℕ) → length (eol_run tabs ahead) ≡ count
@@ -55,19 +60,24 @@ module _ (H : Type 0) where
   no_end : NulIsNoEnd H
   no_end s v e wide f = f.at_end wide ∙ ap none_left e
 
-  chunk : (ahead : List ℕ) (window : ℕ) (stopped : Bool) (count : ℕ) → 1 ≤ window → window ≤ 16 → length (take 3 (chunk_run (colon_at window) false ahead)) ≡ count → ltb count 3 ≡ stopped
-      → ChunkIs H ahead window stopped count
-  chunk ahead window stopped count some few i j aheads source r v u w is new look on =
-      let manner : u.manner ≡ record { prompt = true; steady = true; steps = true } = look.keeps.manner ∙ new.manner in
-      let k : StepsChunk false 3 r u w = subst (λ (b : Bool). OnTrue b (StepsChunk false 3 r u w)) (ap (λ (m : Manner). m.steps) manner) on in
-      let e : u.ahead ≡ ahead = look.ahead ∙ new.all ∙ is in
-      let closed = new.new.closed (ap (λ (m : Manner). m.prompt) new.manner) in
-      let wide : u.window ≡ window = omega (arith, look.keeps.narrow (ap (λ (m : Manner). m.prompt) new.manner), closed) in
-      let steps : cond u.manner.steps 1 0 ≡ 1 = ap (λ (m : Manner). cond {A = ℕ} m.steps 1 0) manner in
-      let up : w.window ≡ u.window = omega (arith, k.takes.keeps.narrow (ap (λ (m : Manner). m.prompt) manner), steps) in
+  prompt_chunk : (ahead : List ℕ) (window : ℕ) (stopped : Bool) (count : ℕ) → 1 ≤ window → length (take 3 (chunk_run (colon_at window) false ahead)) ≡ count → ltb count 3 ≡ stopped
+      → PromptChunkIs H ahead window stopped count
+  prompt_chunk ahead window stopped count some i j r v w is e wide k =
+      let up : w.window ≡ v.window = omega (arith, k.takes.keeps.narrow is, up_to_one v.manner.steps) in
       let sight : k.colon ≡ colon_at window = k.sight (ap colon_at (sym up)) ∙ ap colon_at wide in
       let n : r.1 ≡ count = k.takes.number ∙ (λ t. length (take 3 (chunk_run (sight t) false (e t)))) ∙ i in
       (k.stopped ∙ ap (λ m. ltb m 3) n ∙ j, n)
+
+  chunk : (ahead : List ℕ) (window : ℕ) (stopped : Bool) (count : ℕ) → 1 ≤ window → window ≤ 16 → length (take 3 (chunk_run (colon_at window) false ahead)) ≡ count → ltb count 3 ≡ stopped
+      → ChunkIs H ahead window stopped count
+  chunk ahead window stopped count some few i j aheads source r v u w is new look on =
+      let prompt : v.manner.prompt ≡ true = ap (λ (m : Manner). m.prompt) new.manner in
+      let after : u.manner.prompt ≡ true = ap (λ (m : Manner). m.prompt) look.keeps.manner ∙ prompt in
+      let steps : u.manner.steps ≡ true = ap (λ (m : Manner). m.steps) (look.keeps.manner ∙ new.manner) in
+      let k : StepsChunk false 3 r u w = subst (λ (b : Bool). OnTrue b (StepsChunk false 3 r u w)) steps on in
+      let closed = new.new.closed prompt in
+      let wide : u.window ≡ window = omega (arith, look.keeps.narrow prompt, closed) in
+      prompt_chunk ahead window stopped count some i j r u w after (look.ahead ∙ new.all ∙ is) wide k
 
   half : HalfFetched H
   half look x y z r left v w e f =
@@ -82,35 +92,35 @@ module _ (H : Type 0) where
         f.skips.ahead ∙ (λ t. drop (count t) (e t)),
       )
 
+  prompt_told : PromptToldOnce H
+  prompt_told one two three v a b c d e is new ahead ending l1 a1 l2 a2 a3 =
+      let after : (m n : Manner) → n ≡ m → m.prompt ≡ true → n.prompt ≡ true = λ m n q p. ap (λ (x : Manner). x.prompt) q ∙ p in
+      let ia : a.manner.prompt ≡ true = after v.manner a.manner l1.keeps.manner is in
+      let ib : b.manner.prompt ≡ true = after a.manner b.manner a1.keeps.manner ia in
+      let va : a.ahead ≡ codes "ab" = l1.ahead ∙ ahead in
+      let wa : a.window ≡ 2 = (let n = l1.keeps.narrow is in let z = new.closed is in omega arith) in
+      let ma : a.met ≡ false =
+      l1.keeps.late is ∙ (λ t. new.unmet is t || (false || ltb (length (va t)) (wa t))) in
+      let ta : a.told ≡ false = l1.told ∙ new.untold in
+      let ea : a.ending ≡ Err pulled = l1.keeps.ending ∙ ending in
+      let none : one ≡ None = a1.fault ∙ (λ t. cond (ma t && not a.told) (fault_of a.ending) None) in
+      let vb : b.ahead ≡ codes "ab" = a1.ahead ∙ va in
+      let wb : b.window ≡ 2 = (let n = a1.keeps.narrow ia in omega arith) in
+      let tb : b.told ≡ false = a1.told ∙ (λ t. ta t || is_some (none t)) in
+      let vc : c.ahead ≡ codes "ab" = l2.ahead ∙ vb in
+      let wc : c.window ≡ 3 = (let n = l2.keeps.narrow ib in omega arith) in
+      let met : (m : Bool) → m || (false || true) ≡ true = λ m. elim m as (λ x. x || (false || true) ≡ true) [ true ↦ refl | false ↦ refl ] in
+      let mc : c.met ≡ true = l2.keeps.late ib ∙ (λ t. b.met || (false || ltb (length (vc t)) (wc t))) ∙ met b.met in
+      let tc : c.told ≡ false = l2.told ∙ tb in
+      let ec : c.ending ≡ Err pulled = l2.keeps.ending ∙ a1.keeps.ending ∙ ea in
+      let some : two ≡ Some pulled = a2.fault ∙ (λ t. cond (mc t && not (tc t)) (fault_of (ec t)) None) in
+      let td : d.told ≡ true = a2.told ∙ (λ t. tc t || is_some (some t)) in
+      let md : d.met ≡ true = a2.keeps.stays mc in
+      (none, some, a3.fault ∙ (λ t. cond (md t && not (td t)) (fault_of d.ending) None))
+
 told : ToldOnce
-told source one two three v a b c d e starts fresh l1 a1 l2 a2 a3 =
-    let new = fresh.new in
-    let is : v.manner.prompt ≡ true = ap (λ (m : Manner). m.prompt) fresh.manner in
-    let after : (m n : Manner) → n ≡ m → m.prompt ≡ true → n.prompt ≡ true = λ m n q p. ap (λ (x : Manner). x.prompt) q ∙ p in
-    let ia : a.manner.prompt ≡ true = after v.manner a.manner l1.keeps.manner is in
-    let ib : b.manner.prompt ≡ true = after a.manner b.manner a1.keeps.manner ia in
-    let ahead : v.ahead ≡ codes "ab" = fresh.all ∙ starts.all in
-    let ending : v.ending ≡ Err pulled = fresh.finish ∙ starts.ends in
-    let va : a.ahead ≡ codes "ab" = l1.ahead ∙ ahead in
-    let wa : a.window ≡ 2 = (let n = l1.keeps.narrow is in let z = new.closed is in omega arith) in
-    let ma : a.met ≡ false =
-    l1.keeps.late is ∙ (λ t. new.unmet is t || (false || ltb (length (va t)) (wa t))) in
-    let ta : a.told ≡ false = l1.told ∙ new.untold in
-    let ea : a.ending ≡ Err pulled = l1.keeps.ending ∙ ending in
-    let none : one ≡ None = a1.fault ∙ (λ t. cond (ma t && not a.told) (fault_of a.ending) None) in
-    let vb : b.ahead ≡ codes "ab" = a1.ahead ∙ va in
-    let wb : b.window ≡ 2 = (let n = a1.keeps.narrow ia in omega arith) in
-    let tb : b.told ≡ false = a1.told ∙ (λ t. ta t || is_some (none t)) in
-    let vc : c.ahead ≡ codes "ab" = l2.ahead ∙ vb in
-    let wc : c.window ≡ 3 = (let n = l2.keeps.narrow ib in omega arith) in
-    let met : (m : Bool) → m || (false || true) ≡ true = λ m. elim m as (λ x. x || (false || true) ≡ true) [ true ↦ refl | false ↦ refl ] in
-    let mc : c.met ≡ true = l2.keeps.late ib ∙ (λ t. b.met || (false || ltb (length (vc t)) (wc t))) ∙ met b.met in
-    let tc : c.told ≡ false = l2.told ∙ tb in
-    let ec : c.ending ≡ Err pulled = l2.keeps.ending ∙ a1.keeps.ending ∙ ea in
-    let some : two ≡ Some pulled = a2.fault ∙ (λ t. cond (mc t && not (tc t)) (fault_of (ec t)) None) in
-    let td : d.told ≡ true = a2.told ∙ (λ t. tc t || is_some (some t)) in
-    let md : d.met ≡ true = a2.keeps.stays mc in
-    (none, some, a3.fault ∙ (λ t. cond (md t && not (td t)) (fault_of d.ending) None))
+told source one two three v a b c d e starts fresh =
+    prompt_told Codes one two three v a b c d e (ap (λ (m : Manner). m.prompt) fresh.manner) fresh.new (fresh.all ∙ starts.all) (fresh.finish ∙ starts.ends)
 
 pub worked : (H : Type 0) → Worked H
 worked H =
@@ -125,7 +135,10 @@ worked H =
       flow_stops = plain H true (codes "a,b") 1 refl;
       half_fetched = half H;
       nul_is_no_end = no_end H;
+      prompt_chunk_narrow = prompt_chunk H (codes "a:b") 1 true 1 (omega arith) refl refl;
+      prompt_chunk_wide = prompt_chunk H (codes "a:b") 2 false 3 (omega arith) refl refl;
       chunk_narrow = chunk H (codes "a:b") 1 true 1 (omega arith) (omega arith) refl refl;
       chunk_wide = chunk H (codes "a:b") 2 false 3 (omega arith) (omega arith) refl refl;
+      prompt_told_once = prompt_told H;
       told_once = told;
     }

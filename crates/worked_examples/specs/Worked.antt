@@ -1,5 +1,5 @@
--- The ten worked examples, each of every kind of input with these characters ahead.
-use Rattle.std.specs.Prelude.{◌≡◌, ℕ, ◌<◌, ◌≤◌, Bool, true, false, List, [], ◌∷◌, ◌++◌, drop, Some, None, codes, Option, Result}
+-- The ten worked examples, each of every kind of input or prompt kind, with these characters ahead.
+use Rattle.std.specs.Prelude.{◌≡◌, ℕ, ◌<◌, ◌≤◌, Bool, true, false, List, [], ◌∷◌, ◌++◌, drop, Some, None, codes, Option, Result, Err}
 use Rattle.std.specs.Bool.{OnTrue}
 use Rattle.error.specs.Numbers.{outcome}
 use Rattle.error.specs.declared.Fault.{Fault}
@@ -9,7 +9,7 @@ use Rattle.char_traits.specs.Chars.{yaml_non_space}
 use Rattle.source.specs.Codes.{CodesStart, code_chars, code_ending, codes_ahead, codes_ending, codes_given}
 use Rattle.source.specs.declared.codes.Codes.{Codes}
 use Rattle.source.specs.declared.codes.CodesEnding.TheVariants.{InputIo as PulledThen}
-use Rattle.input.specs.View.{View, Look, IsFresh}
+use Rattle.input.specs.View.{View, Look, IsNew, IsFresh}
 use Rattle.input.specs.Calls.{Looks, TakesFault}
 use Rattle.input.specs.Tests.{flag, Shown, IsFaithful, start_marker, is_marker}
 use Rattle.runs.specs.declared.Fetched.{Fetched}
@@ -64,12 +64,26 @@ module _ (H : Type 0) where
       (s : Shown) (v : View H) → v.ahead ≡ 0x00 ∷ 0x7A ∷ [] → 0 < v.window → IsFaithful s v
       → s.at_end ≡ false
 
+  -- what a chunk of three answers on any prompt input with this window
+  abbrev pub PromptChunkIs : List ℕ → ℕ → Bool → ℕ → Type 0
+  PromptChunkIs ahead window stopped count =
+      (r : Bool × ℕ) (v w : View H) → v.manner.prompt ≡ true → v.ahead ≡ ahead → v.window ≡ window
+      → StepsChunk false 3 r v w → (r.0 ≡ stopped) × (r.1 ≡ count)
+
   -- what a chunk of three answers on a new ring over a source, after a lookahead
   abbrev pub ChunkIs : List ℕ → ℕ → Bool → ℕ → Type 0
   ChunkIs ahead window stopped count =
       (aheads : H → List ℕ) (source : H) (r : Bool × ℕ) (v u w : View H) → aheads source ≡ ahead
       → IsFresh (ring_making aheads source) v → Looks window v u
       → OnTrue u.manner.steps (StepsChunk false 3 r u w) → (r.0 ≡ stopped) × (r.1 ≡ count)
+
+  -- ab and then a pulled cable, through any new prompt input, by the calls of `ToldOnce`
+  abbrev pub PromptToldOnce : Type 0
+  PromptToldOnce =
+      (one two three : Option Fault) (v a b c d e : View H)
+      → v.manner.prompt ≡ true → IsNew v → v.ahead ≡ codes "ab" → v.ending ≡ Err pulled
+      → Looks 2 v a → TakesFault one a b → Looks 3 b c → TakesFault two c d → TakesFault three d e
+      → (one ≡ None) × (two ≡ Some pulled) × (three ≡ None)
 
 -- the codes of ab and then a pulled cable, through a new ring: lookahead 2, an asking, lookahead 3, two askings
 abbrev pub ToldOnce : Type 0
@@ -91,6 +105,9 @@ pub record Worked (H : Type 0) : Type 0 where
   pub flow_stops : PlainIs H true (codes "a,b") 1
   pub half_fetched : HalfFetched H
   pub nul_is_no_end : NulIsNoEnd H
+  pub prompt_chunk_narrow : PromptChunkIs H (codes "a:b") 1 true 1
+  pub prompt_chunk_wide : PromptChunkIs H (codes "a:b") 2 false 3
   pub chunk_narrow : ChunkIs H (codes "a:b") 1 true 1
   pub chunk_wide : ChunkIs H (codes "a:b") 2 false 3
+  pub prompt_told_once : PromptToldOnce H
   pub told_once : ToldOnce

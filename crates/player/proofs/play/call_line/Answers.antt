@@ -13,5 +13,5 @@ returns-clause-line g c =
       a,
       left,
       c.push_answer.ensures,
-      record { means = made.means; wide = made.wide; tells = ap (λ bytes. line_of (answer_text a bytes)) (sym none) },
+      record { means = made.means; tells = ap (λ bytes. line_of (answer_text a bytes)) (sym none) },
     )

@@ -1,6 +1,6 @@
 use Rattle.std.proofs.Common.{length}
 use Rattle.player.specs.Lines.{PassesSome}
-use Rattle.player.proofs.list.serve.Given as goal
+use Rattle.player.proofs.list.serve_by.Given as goal
 
 abbrev pub invariant-loop-line : goal.invariant-loop-line
 invariant-loop-line g l = PassesSome l.initial.lines.rest.now l.lines.rest.now

@@ -1,5 +1,5 @@
 use Rattle.player.proofs.TakenLines.{passed_more}
-use Rattle.player.proofs.list.serve.Goals as goal
+use Rattle.player.proofs.list.serve_by.Goals as goal
 
 -- the line that was taken is no new input's
 pub loop-line-preserved : goal.loop-line-preserved
