@@ -38,17 +38,24 @@ abbrev pub LentByOne : {L R : Type 0} → (L → ℕ → ℕ → Option (List �
 LentByOne first second (First x) = first x
 LentByOne first second (Second y) = second y
 
+-- what is 16 or more of both is so of the one that it is
+pub one_wide : {L R : Type 0} (first : L → ℕ) (second : R → ℕ) → ((x : L) → 16 ≤ first x)
+    → ((y : R) → 16 ≤ second y) → (x : OneOf L R) → 16 ≤ by_one first second x
+one_wide first second l r (First x) = l x
+one_wide first second l r (Second y) = r y
+
 module _ {L R H K : Type 0} (first : L → View H) (second : R → View K) where
   -- its characters, its window, its ending and its manner are those of the one that it is
   abbrev pub one_view : OneOf L R → View (H ⊎ K)
   one_view (First x) = view_with inl (first x)
   one_view (Second y) = view_with inr (second y)
 
-  pub one_wide : ((x : L) → 16 ≤ (first x).manner.most)
+  -- and so is the window that it can always have
+  pub one_view_wide : ((x : L) → 16 ≤ (first x).manner.most)
       → ((y : R) → 16 ≤ (second y).manner.most) → (x : OneOf L R)
       → 16 ≤ (one_view x).manner.most
-  one_wide l r (First x) = l x
-  one_wide l r (Second y) = r y
+  one_view_wide l r (First x) = l x
+  one_view_wide l r (Second y) = r y
 
   pub one_sound : ((x : L) → IsSound (first x)) → ((y : R) → IsSound (second y)) → (x : OneOf L R)
       → IsSound (one_view x)

@@ -2,7 +2,7 @@
 #![tactic(auto)]
 
 ghost use Rattle.std.specs.Prelude.{◌⊎◌};
-ghost use Rattle.choice.specs.Either.{by_one, one_view, one_sound, one_faithful, one_wide};
+ghost use Rattle.choice.specs.Either.{by_one, one_view, one_sound, one_faithful, one_view_wide};
 
 use error::{Ending, Fault, Refusal};
 use input::borrowed::BorrowedInput;
@@ -30,7 +30,7 @@ impl<L: Input, R: Input> Input for OneOf<L, R> {
 
     ghost faithful = { one_faithful L.view R.view L.shown R.shown L.faithful R.faithful };
 
-    ghost wide = { one_wide L.view R.view L.wide R.wide };
+    ghost wide = { one_view_wide L.view R.view L.wide R.wide };
 
     fn lookahead(&mut self, count: usize) {
         match self {
