@@ -50,7 +50,7 @@ module _ {L R H K : Type 0} (first : L → View H) (second : R → View K) where
   one_view (First x) = view_with inl (first x)
   one_view (Second y) = view_with inr (second y)
 
-  -- and so is the window that it can always have
+  -- a window of 16 can always be had of it, if it can of each of the two
   pub one_view_wide : ((x : L) → 16 ≤ (first x).manner.most)
       → ((y : R) → 16 ≤ (second y).manner.most) → (x : OneOf L R)
       → 16 ≤ (one_view x).manner.most
